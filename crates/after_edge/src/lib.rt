@@ -1,0 +1,8 @@
+//! The outside of a run: sinks that take bytes, files that give them, fakes in memory and adapters of the host.
+#![tactic(auto)]
+
+mod files;
+mod sink;
+
+pub use files::{Files, ReadFault};
+pub use sink::{Failed, Sink};

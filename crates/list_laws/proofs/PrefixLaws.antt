@@ -1,0 +1,27 @@
+-- Fronts of lists, joined and compared.
+use Rattle.std.proofs.Common.{List, [], ◌++◌, refl, sym, ◌∙◌, ap, append_assoc, append-nil}
+use Rattle.list_laws.specs.Prefix.{IsPrefix}
+
+-- a list is a front of itself
+pub whole_IsPrefix : {X : Type 0} (xs : List X) → IsPrefix xs xs
+whole_IsPrefix xs = record { rest = []; joined = append-nil xs }
+
+-- nothing is a front of each list
+pub empty_IsPrefix : {X : Type 0} (xs : List X) → IsPrefix [] xs
+empty_IsPrefix xs = record { rest = xs; joined = refl }
+
+-- the first of two joined lists is a front
+pub left_IsPrefix : {X : Type 0} (xs ys : List X) → IsPrefix xs (xs ++ ys)
+left_IsPrefix xs ys = record { rest = ys; joined = refl }
+
+-- the same list before both sides
+pub IsPrefix-after : {X : Type 0} (before : List X) {front whole : List X} → IsPrefix front whole → IsPrefix (before ++ front) (before ++ whole)
+IsPrefix-after before {front = front} p = record { rest = p.rest; joined = append_assoc before front p.rest ∙ ap (λ l. before ++ l) p.joined }
+
+-- more behind the whole
+pub IsPrefix-more : {X : Type 0} {front whole : List X} (more : List X) → IsPrefix front whole → IsPrefix front (whole ++ more)
+IsPrefix-more {front = front} more p = record { rest = p.rest ++ more; joined = sym (append_assoc front p.rest more) ∙ ap (λ l. l ++ more) p.joined }
+
+-- a front of a front is a front
+pub IsPrefix-trans : {X : Type 0} {a b c : List X} → IsPrefix a b → IsPrefix b c → IsPrefix a c
+IsPrefix-trans {a = a} p q = record { rest = p.rest ++ q.rest; joined = sym (append_assoc a p.rest q.rest) ∙ ap (λ l. l ++ q.rest) p.joined ∙ q.joined }

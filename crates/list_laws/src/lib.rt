@@ -1,0 +1,2 @@
+//! Words and lemmas on lists that several crates cite.
+#![tactic(auto)]

@@ -1,0 +1,15 @@
+//! What a run shows and what is recorded of it: events, records, findings, and who watches.
+#![tactic(auto)]
+
+mod access;
+mod event;
+mod finding;
+mod record;
+mod shared;
+mod watcher;
+
+pub use access::{Access, Told};
+pub use event::Event;
+pub use finding::{Finding, FindingKind, Kind};
+pub use record::{EndCause, Record};
+pub use watcher::Watcher;

@@ -1,0 +1,24 @@
+ghost use Rattle.std.specs.Prelude.{◌≡◌, ℕ, List, [], ◌∷◌, ◌++◌};
+ghost use Rattle.run_events.specs.declared.event.Event.{Event};
+ghost use Rattle.run_events.specs.Event.{Fits};
+
+use crate::Event;
+
+/// Something that looks at the events of a run, one after another.
+pub trait Watcher {
+    /// It has seen this list of events, and no other.
+    ghost has_seen: { Self → List Event → Type 0 };
+
+    /// The RAM size of the runs that it watches, in KiB.
+    ghost ram_kib: { Self → ℕ };
+
+    /// What it was made of, as numbers.
+    ghost make: { Self → List ℕ };
+
+    /// Looks at the next event.
+    fn see(&mut self, event: &Event)
+        requires { Fits (ram_kib self.old) event.now }
+        ensures seen { (h : List Event) → has_seen self.old h → has_seen self.new (h ++ event.now ∷ []) }
+        ensures size { ram_kib self.new ≡ ram_kib self.old }
+        ensures made { make self.new ≡ make self.old };
+}
