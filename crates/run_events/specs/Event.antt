@@ -1,6 +1,6 @@
 -- What is said of single events.
-use Rattle.std.specs.Prelude.{◌≡◌, ◌⊎◌, ℕ, ◌+◌, ◌*◌, ◌/◌, ◌%◌, ◌^◌, ◌≤◌, ◌<◌, Bool, true, false}
-use Rattle.memory_map.specs.Ram.{InRam}
+use Rattle.std.specs.Prelude.{◌≡◌, ℕ, ◌+◌, ◌*◌, ◌%◌, ◌^◌, ◌≤◌, true, false}
+use Rattle.memory_map.specs.Ram.{InRam, IsWidth}
 use Rattle.run_events.specs.declared.access.Access.{Access}
 use Rattle.run_events.specs.declared.access.Access.TheVariants.{Quiet, Load, Store, Swap}
 use Rattle.run_events.specs.declared.event.Event.{Event}
@@ -17,10 +17,6 @@ step_of (Exec step pc word next result access told) = step
 pub record IsWordInRam (ram_kib address : ℕ) : Type 0 where
   pub aligned : address % 4 ≡ 0
   pub within : InRam (1024 * ram_kib) address 4
-
--- a width in bytes that an instruction accesses
-abbrev pub IsWidth : ℕ → Type 0
-IsWidth width = (width ≡ 1) ⊎ (width ≡ 2) ⊎ (width ≡ 4)
 
 -- these bytes stand in RAM, where they are no device's
 pub record IsDataInRam (ram_kib address width : ℕ) : Type 0 where

@@ -3,10 +3,6 @@ use Rattle.std.specs.Prelude.{◌≡◌, ◌⊎◌, ℕ, ◌+◌, ◌-◌, List,
 use Rattle.std.specs.Int.{w32, to_le_bytes, from_le_bytes}
 use Rattle.memory_map.specs.declared.TheConstants.{RAM_START}
 
--- the widths of an access, in bytes
-abbrev pub IsWidth : ℕ → Type 0
-IsWidth width = (width ≡ 1) ⊎ (width ≡ 2) ⊎ (width ≡ 4)
-
 -- the bytes with these in the place of those from `at` on
 abbrev pub placed : List ℕ → ℕ → List ℕ → List ℕ
 placed bytes at piece = take at bytes ++ piece ++ drop (at + length piece) bytes

@@ -1,6 +1,6 @@
 ghost use Rattle.std.specs.Prelude.{◌≡◌, ◌⊎◌, ℕ, ◌*◌, ◌^◌, ◌<◌, ◌≤◌, List, length, replicate, IfOk};
-ghost use Rattle.memory_map.specs.Ram.{InRam, in_ram};
-ghost use Rattle.rv_memory.specs.Ram.{IsWidth, loaded, stored, filled};
+ghost use Rattle.memory_map.specs.Ram.{InRam, IsWidth, in_ram};
+ghost use Rattle.rv_memory.specs.Ram.{loaded, stored, filled};
 
 use memory_map::{NoMemory, RAM_START};
 use std::alloc::Global;
