@@ -1,0 +1,5 @@
+pub mod Ascending
+pub mod Cover
+pub mod Findings
+pub mod Job
+pub mod Report
