@@ -1,5 +1,5 @@
 -- What a guest's file gives: where it starts, and the bytes that are put into RAM.
-use Rattle.std.specs.Prelude.{ℕ, ◌*◌, Bool, true, List, [], ◌∷◌, length, replicate}
+use Rattle.std.specs.Prelude.{◌≡◌, ◌≤◌, ℕ, ◌*◌, Bool, true, List, [], ◌∷◌, length, replicate}
 use Rattle.memory_map.specs.declared.TheConstants.{RAM_START}
 use Rattle.rv_memory.specs.Ram.{filled}
 
@@ -26,3 +26,9 @@ ram_with (segment ∷ segments) ram = ram_with segments (filled ram segment.addr
 -- RAM as the guest finds it: zero but for the image
 abbrev pub ram_at_start : Image → ℕ → List ℕ
 ram_at_start image ram_kib = ram_with image.segments (replicate (1024 * ram_kib) 0)
+
+-- an image that some file gives for a RAM of this many KiB
+pub record IsReadFor (image : Image) (ram_kib : ℕ) : Type 0 where
+  pub file : List ℕ
+  pub given : image ≡ flat_image file
+  pub fits : length file ≤ 1024 * ram_kib
