@@ -1,5 +1,5 @@
 -- Loads and stores on a list of bytes that begins at RAM's first address. (Unprivileged manual, 1.4 and 2.6: little-endian.)
-use Rattle.std.specs.Prelude.{◌≡◌, ◌⊎◌, ℕ, ◌+◌, ◌-◌, List, ◌++◌, length, take, drop}
+use Rattle.std.specs.Prelude.{ℕ, ◌+◌, ◌-◌, List, ◌++◌, length, take, drop}
 use Rattle.std.specs.Int.{w32, to_le_bytes, from_le_bytes}
 use Rattle.memory_map.specs.declared.TheConstants.{RAM_START}
 

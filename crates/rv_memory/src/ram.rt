@@ -31,4 +31,61 @@ impl Ram {
             bytes: vec![in alloc; 0u8; 1024 * kib as usize]?,
         })
     }
+
+    /// Whether `[address, address + width)` stands in RAM, as whole numbers.
+    pub fn holds(&self, address: u32, width: u32) -> bool
+        ensures { result ≡ in_ram (length self.now) address width }
+    {
+        let bytes = self.bytes.as_slice();
+        RAM_START <= address && (address - RAM_START) as usize + width as usize <= bytes.len()
+    }
+
+    /// The value of the bytes at an address, little-endian and extended by zero. (Unprivileged manual, 1.4 and 2.6.)
+    pub fn load(&self, address: u32, width: u32) -> u32
+        requires width { IsWidth width }
+        requires held { InRam (length self.now) address width }
+        ensures { result ≡ loaded self.now address width }
+    {
+        let bytes = self.bytes.as_slice();
+        let at = (address - RAM_START) as usize;
+        match width {
+            1 => u32::from(bytes[at]),
+            2 => u32::from(u16::from_le_bytes([bytes[at], bytes[at + 1]])),
+            _ => u32::from_le_bytes([bytes[at], bytes[at + 1], bytes[at + 2], bytes[at + 3]]),
+        }
+    }
+
+    /// Stores the low bytes of a value at an address, little-endian; all other bytes stay. (Unprivileged manual, 1.4 and 2.6.)
+    pub fn store(&mut self, address: u32, width: u32, value: u32)
+        requires width { IsWidth width }
+        requires held { InRam (length self.old) address width }
+        ensures value { self.new ≡ stored self.old address width value }
+        ensures length { length self.new ≡ length self.old }
+    {
+        let at = (address - RAM_START) as usize;
+        let low = value.to_le_bytes();
+        let bytes = self.bytes.as_mut_slice();
+        match width {
+            1 => bytes[at..at + 1].copy_from_slice(&low[..1]),
+            2 => bytes[at..at + 2].copy_from_slice(&low[..2]),
+            _ => bytes[at..at + 4].copy_from_slice(&low),
+        }
+    }
+
+    /// Writes these bytes from an address on; all other bytes stay.
+    pub fn fill(&mut self, address: u32, bytes: &[u8])
+        requires { InRam (length self.old) address (length bytes.now) }
+        ensures value { self.new ≡ filled self.old address bytes.now }
+        ensures length { length self.new ≡ length self.old }
+    {
+        let at = (address - RAM_START) as usize;
+        self.bytes[at..at + bytes.len()].copy_from_slice(bytes);
+    }
+}
+
+// RAM may be handed to another thread, and be read by several.
+fn crosses_threads<T: Send + Sync>(_value: &T) {}
+
+fn ram_crosses_threads(ram: &Ram) {
+    crosses_threads(ram);
 }
