@@ -1,7 +1,8 @@
 ghost use Rattle.std.specs.Prelude.{◌≡◌, ◌+◌, ◌<◌, ◌≤◌, ◌^◌, ℕ, List, length, IfOk};
-ghost use Rattle.machine_model.specs.Image.{flat_image};
+ghost use Rattle.machine_model.specs.Image.{flat_image, ram_with, IsLoadable};
 
 use memory_map::{NoMemory, RAM_START};
+use rv_memory::Ram;
 use std::alloc::Global;
 use std::marker::Model;
 
@@ -35,6 +36,19 @@ impl Model for Image {
     ghost Value = { Guest };
 
     ghost view = { λ i. record { entry = i.entry; segments = i.segments.items } };
+}
+
+impl Image {
+    /// Puts the segments' bytes into RAM, in order. The image was read for a RAM of this size.
+    pub fn load_into(&self, ram: &mut Ram)
+        requires { IsLoadable (length ram.old) self.now.segments }
+        ensures loaded { ram.new ≡ ram_with self.now.segments ram.old }
+        ensures size { length ram.new ≡ length ram.old }
+    {
+        for segment in &self.segments {
+            ram.fill(segment.address, &segment.bytes);
+        }
+    }
 }
 
 /// The image of a file without a header: one executable segment at the start of RAM, where the guest starts too.

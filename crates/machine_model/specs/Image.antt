@@ -1,5 +1,6 @@
 -- What a guest's file gives: where it starts, and the bytes that are put into RAM.
 use Rattle.std.specs.Prelude.{◌≡◌, ◌≤◌, ℕ, ◌*◌, Bool, true, List, [], ◌∷◌, length, replicate}
+use Rattle.memory_map.specs.Ram.{InRam}
 use Rattle.memory_map.specs.declared.TheConstants.{RAM_START}
 use Rattle.rv_memory.specs.Ram.{filled}
 
@@ -22,6 +23,11 @@ flat_image file = record { entry = RAM_START; segments = record { address = RAM_
 abbrev pub ram_with : List Segment → List ℕ → List ℕ
 ram_with [] ram = ram
 ram_with (segment ∷ segments) ram = ram_with segments (filled ram segment.address segment.bytes)
+
+-- the bytes that the file gives for each segment stand in a RAM of this many bytes
+abbrev pub IsLoadable : ℕ → List Segment → Type 0
+IsLoadable size [] = Unit {0}
+IsLoadable size (segment ∷ segments) = InRam size segment.address (length segment.bytes) × IsLoadable size segments
 
 -- RAM as the guest finds it: zero but for the image
 abbrev pub ram_at_start : Image → ℕ → List ℕ

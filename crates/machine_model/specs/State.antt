@@ -1,7 +1,9 @@
 -- The state of the hart and of its RAM.
 use Rattle.std.specs.Prelude.{ℕ, List, [], ◌∷◌, replicate, Option, None}
+use Rattle.std.proofs.Common.{refl}
 use Rattle.std.specs.Ordering.{nat_cmp}
-use Rattle.std.specs.FinMap.{FinMap, from_entries}
+use Rattle.std.specs.Coded.{Coded, code_by, coded×, coded_ℕ, coded_list, coded_option}
+use Rattle.std.specs.FinMap.{FinMap, from_entries, code}
 use Rattle.machine_model.specs.Image.{Image, ram_at_start}
 
 pub record State : Type 0 where
@@ -29,3 +31,12 @@ reset_state ram entry = record { registers = replicate 32 0; pc = entry; csrs = 
 -- the guest at step 0
 abbrev pub started : Image → ℕ → State
 started image ram_kib = reset_state (ram_at_start image ram_kib) image.entry
+
+-- a state is stored as the pairs of its fields
+abbrev pub state_code : Coded State
+state_code =
+    code_by (List ℕ × (ℕ × (FinMap nat_cmp ℕ × (List ℕ × (Option ℕ × ℕ)))))
+    (coded× (coded_list coded_ℕ) (coded× coded_ℕ (coded× (code coded_ℕ coded_ℕ) (coded× (coded_list coded_ℕ) (coded× (coded_option coded_ℕ) coded_ℕ)))))
+    (λ s. (s.registers, (s.pc, (s.csrs, (s.ram, (s.reservation, s.step))))))
+    (λ p. record { registers = p.0; pc = p.1.0; csrs = p.1.1.0; ram = p.1.1.1.0; reservation = p.1.1.1.1.0; step = p.1.1.1.1.1 })
+    (λ _. refl)
