@@ -40,8 +40,12 @@ stop job = least_refused job.image (finished job) job.required
 abbrev pub before_step : ℕ → List (ℕ × ℕ) → List (ℕ × ℕ)
 before_step step sent = filter (λ byte. nat_lt byte.0 step) sent
 
+-- the part of a run's output that the required analyses let out
+abbrev pub released_of : Image → Finished → List Kind → List (ℕ × ℕ)
+released_of image run required = before_step (least_refused image run required) (output run.events)
+
 abbrev pub released : Job → List (ℕ × ℕ)
-released job = before_step (stop job) (output (finished job).events)
+released job = released_of job.image (finished job) job.required
 
 -- some chosen analysis has a finding
 abbrev pub has_finding : Image → List Event → List Kind → Bool

@@ -30,7 +30,7 @@ IsLoadable size [] = Unit {0}
 IsLoadable size (segment ∷ segments) = InRam size segment.address (length segment.bytes) × IsLoadable size segments
 
 -- RAM as the guest finds it: zero but for the image
-abbrev pub ram_at_start : Image → ℕ → List ℕ
+unfoldable pub ram_at_start : Image → ℕ → List ℕ
 ram_at_start image ram_kib = ram_with image.segments (replicate (1024 * ram_kib) 0)
 
 -- an image that some file gives for a RAM of this many KiB
