@@ -2,7 +2,9 @@
 #![tactic(auto)]
 
 mod files;
+mod reading;
 mod sink;
 
 pub use files::{Files, ReadFault};
+pub use reading::{FileFault, read_all};
 pub use sink::{Failed, Sink};
