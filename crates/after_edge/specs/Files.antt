@@ -13,6 +13,10 @@ Contents = List ℕ → Option (List ℕ)
 abbrev pub IfTold : Option Contents → (Contents → Type 0) → Type 0
 IfTold content P = (files : Contents) → content ≡ Some files → P files
 
+-- the content of files that do not tell it
+abbrev pub untold : Option Contents
+untold = None
+
 -- the files tell their content, and have none of this name
 pub record IsAbsent (content : Option Contents) (name : List ℕ) : Type 0 where
   pub files : Contents

@@ -2,7 +2,16 @@
 #![tactic(auto)]
 
 mod files;
+mod memory_sink;
+mod reading;
+mod reserved;
 mod sink;
+mod std_files;
+mod std_sink;
 
 pub use files::{Files, ReadFault};
+pub use memory_sink::MemorySink;
+pub use reading::{FileFault, read_all};
 pub use sink::{Failed, Sink};
+pub use std_files::StdFiles;
+pub use std_sink::StdSink;
