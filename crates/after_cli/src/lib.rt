@@ -1,0 +1,5 @@
+//! The top call: from the words of the command line to the report and the status.
+#![tactic(auto)]
+
+mod command_words;
+mod inputs;
