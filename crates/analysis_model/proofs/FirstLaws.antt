@@ -11,9 +11,8 @@ use Rattle.run_events.specs.declared.finding.Kind.{Kind}
 use Rattle.run_events.specs.declared.finding.Kind.TheVariants.{Heap, Taint, Calls, Cover, Locks}
 use Rattle.run_events.specs.declared.record.EndCause.{EndCause}
 use Rattle.run_events.specs.Event.{step_of}
-use Rattle.machine_model.specs.Image.{Image}
 use Rattle.machine_model.specs.Run.{Finished}
-use Rattle.analysis_model.specs.Cover.{Span, is_within, outside, outside_at, executable_spans}
+use Rattle.analysis_model.specs.Cover.{Span, is_within, outside, outside_at}
 use Rattle.analysis_model.specs.Findings.{findings, first_step}
 use Rattle.analysis_model.specs.Job.{first_refused, least_refused}
 
@@ -87,10 +86,9 @@ first_at Taint code n event at = tt
 first_at Calls code n event at = tt
 first_at Locks code n event at = tt
 
-pub first_refused_goes : (image : Image) (kind : Kind) (n : ℕ) (events : List Event) (event : Event) (c d : EndCause) → Below n events → step_of event ≡ n
-    → Goes n (first_refused image (run_so_far events n c) kind) (first_refused image (run_so_far (events ++ event ∷ []) (n + 1) d) kind)
-first_refused_goes image kind n events event c d below at =
-    let code = executable_spans image in
+pub first_refused_goes : (code : List Span) (kind : Kind) (n : ℕ) (events : List Event) (event : Event) (c d : EndCause) → Below n events → step_of event ≡ n
+    → Goes n (first_refused code (run_so_far events n c) kind) (first_refused code (run_so_far (events ++ event ∷ []) (n + 1) d) kind)
+first_refused_goes code kind n events event c d below at =
     let same : unwrap_or (first_step (findings kind code (events ++ event ∷ []))) (n + 1) ≡ unwrap_or (first_step (findings kind code events)) (unwrap_or (first_step (findings kind code (event ∷ []))) (n + 1))
         = ap (λ l. unwrap_or (first_step l) (n + 1)) (findings-append kind code events (event ∷ [])) ∙ first_step-append (findings kind code events) (findings kind code (event ∷ [])) (n + 1) in
     subst (λ x. Goes n (unwrap_or (first_step (findings kind code events)) n) x) (sym same)
@@ -107,10 +105,10 @@ min_goes n a a' b b' (inr (ea, inr fa)) (inr (eb, inl fb)) = inr (omega arith, i
 min_goes n a a' b b' (inr (ea, inr fa)) (inr (eb, inr fb)) = inr (omega arith, inr (omega arith))
 
 -- the same of the least over the required analyses
-pub least_refused_goes : (image : Image) (kinds : List Kind) (n : ℕ) (events : List Event) (event : Event) (c d : EndCause) → Below n events → step_of event ≡ n
-    → Goes n (least_refused image (run_so_far events n c) kinds) (least_refused image (run_so_far (events ++ event ∷ []) (n + 1) d) kinds)
-least_refused_goes image [] n events event c d below at = inr (refl, inr refl)
-least_refused_goes image (kind ∷ kinds) n events event c d below at =
-    min_goes n (first_refused image (run_so_far events n c) kind) (first_refused image (run_so_far (events ++ event ∷ []) (n + 1) d) kind)
-    (least_refused image (run_so_far events n c) kinds) (least_refused image (run_so_far (events ++ event ∷ []) (n + 1) d) kinds)
-    (first_refused_goes image kind n events event c d below at) (least_refused_goes image kinds n events event c d below at)
+pub least_refused_goes : (code : List Span) (kinds : List Kind) (n : ℕ) (events : List Event) (event : Event) (c d : EndCause) → Below n events → step_of event ≡ n
+    → Goes n (least_refused code (run_so_far events n c) kinds) (least_refused code (run_so_far (events ++ event ∷ []) (n + 1) d) kinds)
+least_refused_goes code [] n events event c d below at = inr (refl, inr refl)
+least_refused_goes code (kind ∷ kinds) n events event c d below at =
+    min_goes n (first_refused code (run_so_far events n c) kind) (first_refused code (run_so_far (events ++ event ∷ []) (n + 1) d) kind)
+    (least_refused code (run_so_far events n c) kinds) (least_refused code (run_so_far (events ++ event ∷ []) (n + 1) d) kinds)
+    (first_refused_goes code kind n events event c d below at) (least_refused_goes code kinds n events event c d below at)
