@@ -2,4 +2,7 @@
 #![tactic(auto)]
 
 mod command_words;
+mod guard_run;
 mod inputs;
+mod rv_devices;
+mod rv_machine;
