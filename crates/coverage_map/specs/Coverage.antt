@@ -40,8 +40,10 @@ marked_from address (mark ∷ marks) = if mark then address ∷ marked_from (add
 abbrev pub marked : List Bool → List ℕ
 marked marks = marked_from RAM_START marks
 
--- it has seen exactly these events: the marked words are those that the events executed, and the findings are theirs
+-- it has seen exactly these events: of the words of RAM those are marked that the events executed, and the findings
+-- are theirs
 pub record Stands (c : Covered) (events : List Event) : Type 0 where
+  pub whole : length c.marks ≡ 256 * c.ram_kib
   pub executed : marked c.marks ≡ executed_pcs events
   pub tallied : Tallies c.found (findings Cover (code_made_of (make_now c)) events)
 

@@ -26,7 +26,12 @@ impl Area {
 pub fn is_code(code: &[Area], pc: u32) -> bool
     ensures { result ≡ is_within (spans_made_of (area_numbers code.now)) pc }
 {
-    code.iter().any(|area| area.holds(pc))
+    for area in code {
+        if area.holds(pc) {
+            return true;
+        }
+    }
+    false
 }
 
 /// The executable segments, in order.

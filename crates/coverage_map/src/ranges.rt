@@ -33,7 +33,7 @@ pub fn find_range(marks: &[bool], index: u64) -> (u32, u32)
     ensures { slice_get (runs (marked marks.now)) index ≡ Some (record { from = result.0; to = result.1 }) }
 {
     let mut place = next_marked(marks, 0);
-    for _ in 0..index {
+    for passed in 0..index {
         place = next_marked(marks, range_end(marks, place));
     }
     (address_of(place), address_of(range_end(marks, place)))
@@ -55,6 +55,7 @@ fn next_marked(marks: &[bool], start: usize) -> usize
 }
 
 // The place behind the range that begins at this marked place.
+#[tactic(auto, using(crate::proofs::PlaceLaws::range_grows, crate::proofs::PlaceLaws::range_ends, crate::proofs::PlaceLaws::range_ends_last))]
 fn range_end(marks: &[bool], start: usize) -> usize
     requires { slice_get marks.now start ≡ Some true }
     ensures from { start < result }
