@@ -10,10 +10,10 @@ use Rattle.run_events.specs.declared.finding.Kind.{Kind}
 use Rattle.run_events.specs.declared.finding.Kind.TheVariants.{Heap, Taint, Calls, Cover, Locks}
 use Rattle.run_events.specs.declared.record.EndCause.{EndCause}
 use Rattle.run_events.specs.declared.record.EndCause.TheVariants.{Power, Limit, Stuck}
-use Rattle.machine_model.specs.Run.{output, log}
+use Rattle.machine_model.specs.Run.{Finished, output, log}
 use Rattle.analysis_model.specs.Cover.{Span, executed_pcs, executed_ranges, executable_spans}
 use Rattle.analysis_model.specs.Findings.{findings, first_step, tally, kept}
-use Rattle.analysis_model.specs.Job.{Job, finished, released}
+use Rattle.analysis_model.specs.Job.{Job, finished, released, released_of}
 
 -- one line: its text, and a line feed
 abbrev pub line : List ℕ → List ℕ
@@ -34,14 +34,17 @@ pub record Facts : Type 0 where
   pub items : ℕ
 
 -- the number of records of the log goes into the report, and not the log
-abbrev pub facts : Job → Facts
-facts job = record {
-  steps = (finished job).steps;
-  end = (finished job).cause;
-  issued = length (output (finished job).events);
-  released = length (released job);
-  items = length (log (finished job));
+abbrev pub run_facts : List Span → Finished → List Kind → Facts
+run_facts code run required = record {
+  steps = run.steps;
+  end = run.cause;
+  issued = length (output run.events);
+  released = length (released_of code run required);
+  items = length (log run);
 }
+
+abbrev pub facts : Job → Facts
+facts job = run_facts (executable_spans job.image) (finished job) job.required
 
 unfoldable pub title_line : List ℕ
 title_line = line (codes "== aftersight report")
