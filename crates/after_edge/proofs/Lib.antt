@@ -1,2 +1,4 @@
 pub mod FaultLaws
+pub mod MemorySinkLaws
+pub mod ReadLaws
 pub mod SinkLaws

@@ -1,3 +1,5 @@
 pub mod Fault
 pub mod Files
+pub mod MemorySink
+pub mod Reading
 pub mod Sink

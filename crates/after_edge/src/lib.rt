@@ -2,7 +2,12 @@
 #![tactic(auto)]
 
 mod files;
+mod memory_sink;
+mod reading;
+mod reserved;
 mod sink;
 
 pub use files::{Files, ReadFault};
+pub use memory_sink::MemorySink;
+pub use reading::{FileFault, read_all};
 pub use sink::{Failed, Sink};
