@@ -109,14 +109,14 @@ pub(crate) fn findings(kind: Kind, count: u64, first: Option<u32>) -> Line
 }
 
 #[tactic(auto, unfolding(analysis_model::specs::Report::pcs_line))]
-pub(crate) fn pcs(pcs: u32, ranges: u32) -> Line
+pub(crate) fn pcs(pcs: u64, ranges: u64) -> Line
     ensures { result ≡ pcs_line pcs ranges }
 {
     Line::new()
         .text("cover pcs ")
-        .number(pcs as u64)
+        .number(pcs)
         .text(" ranges ")
-        .number(ranges as u64)
+        .number(ranges)
         .ended()
 }
 
