@@ -1,28 +1,31 @@
 -- The loop of a run: what holds after each event, and what is left at each end.
 use Rattle.std.proofs.Common.{◌≡◌, ◌⊎◌, inl, inr, ⊎_elim, ℕ, zero, suc, ◌+◌, ◌<◌, ◌≤◌, min, Bool, true, false, cond, List, [], ◌∷◌, ◌++◌, length, map, Option, Some, None, refl, sym, ap, subst, ◌∙◌, arith, append-nil, length-append}
-use Rattle.std.specs.Prelude.{IfSome, is_some, unwrap_or}
-use Rattle.std.specs.List.{flat_map}
+use Rattle.std.specs.Prelude.{IfSome, is_some, unwrap_or, ◌||◌, ◌%◌, ◌==◌}
+use Rattle.std.specs.Option.{option_map}
+use Rattle.std.specs.List.{flat_map, cons_option}
 use Rattle.std.proofs.lemmas.List.{map-append, length-map}
 use Rattle.std.proofs.lemmas.Grind.{flat_map-append}
 use Rattle.list_laws.specs.Prefix.{IsPrefix}
+use Rattle.list_laws.proofs.PrefixLaws.{IsPrefix-map, whole_IsPrefix}
 use Rattle.run_events.specs.declared.event.Event.{Event}
 use Rattle.run_events.specs.declared.finding.Kind.{Kind}
 use Rattle.run_events.specs.declared.record.EndCause.{EndCause}
 use Rattle.run_events.specs.declared.record.EndCause.TheVariants.{Power, Limit, Stuck}
 use Rattle.run_events.specs.declared.record.Record.{Record}
-use Rattle.run_events.specs.declared.record.Record.TheVariants.{End}
+use Rattle.run_events.specs.declared.record.Record.TheVariants.{Reach, End}
 use Rattle.run_events.specs.Event.{step_of}
 use Rattle.machine_model.specs.State.{State}
 use Rattle.machine_model.specs.Step.{step_from}
-use Rattle.machine_model.specs.Run.{Finished, run_from, output, records_of, log, power_status}
+use Rattle.machine_model.specs.Run.{Finished, run_from, output, records_of, log, power_status, serial_byte}
 use Rattle.machine_model.proofs.RunLaws.{IsStep, step_from-IsStep, run_from-limit, run_from-stuck, run_from-power, run_from-goes, after_events, after_events-more}
 use Rattle.analysis_model.specs.Cover.{Span}
 use Rattle.analysis_model.specs.Findings.{findings, first_step}
+use Rattle.analysis_model.specs.Made.{kind_made_of, code_made_of}
 use Rattle.analysis_model.specs.Job.{least_refused, released_of}
 use Rattle.analysis_model.specs.Report.{Facts, run_facts}
 use Rattle.analysis_model.proofs.FirstLaws.{Below, Below-more, first_below, run_so_far}
-use Rattle.analysis_model.proofs.ReleaseLaws.{output-append, released-more}
-use Rattle.after_cli.specs.Passing.{passed, sent}
+use Rattle.analysis_model.proofs.ReleaseLaws.{output-append, released-more, released_front}
+use Rattle.after_cli.specs.Passing.{passed, sent, facts_counted}
 
 -- the bytes that one analysis lets out, of a run so far
 abbrev pub let_out : List Span → Kind → List Event → ℕ → List ℕ
@@ -84,10 +87,7 @@ counted_more code kind events event n refused seen seen' put put' issued release
       items_is = omega (arith, k, was.items_is, ap length (flat_map-append records_of events (event ∷ [])), length-append (flat_map records_of events) (flat_map records_of (event ∷ [])), ap length (append-nil (records_of event)));
     }
 
--- the facts of a run that ended after these events, with one record more for its end
-abbrev pub facts_counted : ℕ → EndCause → ℕ → ℕ → ℕ → Facts
-facts_counted n cause issued released items = record { steps = n; end = cause; issued = issued; released = released; items = items }
-
+-- with one record more for the end
 facts_ended : (code : List Span) (kind : Kind) (events : List Event) (n : ℕ) (cause : EndCause) (seen : List Event → Type 0) (put : List ℕ → Type 0) (issued released items : ℕ)
     → IsCounted code kind events n seen put issued released items → facts_counted n cause issued released (items + 1) ≡ run_facts code (run_so_far events n cause) (kind ∷ [])
 facts_ended code kind events n cause seen put issued released items was =
@@ -190,3 +190,53 @@ steps_on code kind limit turn start s next event refused seen seen' put put' iss
       stepped = is;
       counted = subst (λ n. IsCounted code kind (way.so_far ++ event ∷ []) n seen' put' issued' released' items') (sym step.counted) counted;
     }
+
+-- what is let out after n steps is a front of what the whole run lets out
+let_out_front : (code : List Span) (kind : Kind) (left : ℕ) (events : List Event) (s : State) (run : Finished) → run ≡ after_events events (run_from left s) → Below s.step events
+    → IsPrefix (let_out code kind events s.step) (map (λ byte. byte.1) (released_of code run (kind ∷ [])))
+let_out_front code kind left events s run is below =
+    subst (λ r. IsPrefix (let_out code kind events s.step) (map (λ byte. byte.1) (released_of code r (kind ∷ [])))) (sym is)
+    (IsPrefix-map (λ (byte : ℕ × ℕ). byte.1) (released_front code (kind ∷ []) left events s Limit below))
+
+front_by_status : (code : List Span) (kind : Kind) (fewer : ℕ) (so_far : List Event) (s next : State) (event : Event) (run : Finished) → run ≡ after_events so_far (run_from (suc fewer) s) → step_from s ≡ Some (event, next)
+    → Below next.step (so_far ++ event ∷ []) → (o : Option ℕ) → power_status event ≡ o → IsPrefix (let_out code kind (so_far ++ event ∷ []) next.step) (map (λ byte. byte.1) (released_of code run (kind ∷ [])))
+front_by_status code kind fewer so_far s next event run is step below (Some status) power =
+    let ends : run ≡ run_so_far (so_far ++ event ∷ []) next.step (Power status) = is ∙ ap (after_events so_far) (run_from-power fewer s next event status step power) in
+    subst (λ r. IsPrefix (let_out code kind (so_far ++ event ∷ []) next.step) (map (λ byte. byte.1) (released_of code r (kind ∷ [])))) (sym ends) (whole_IsPrefix (let_out code kind (so_far ++ event ∷ []) next.step))
+front_by_status code kind fewer so_far s next event run is step below None power =
+    let_out_front code kind fewer (so_far ++ event ∷ []) next run (is ∙ ap (after_events so_far) (run_from-goes fewer s next event step power) ∙ after_events-more so_far event (run_from fewer next)) below
+
+-- what was put and the byte whose put failed are a front of what the whole run lets out
+pub fails_within : (code : List Span) (kind : Kind) (limit turn : ℕ) (start s next : State) (event : Event) (refused : Bool) (seen seen' : List Event → Type 0) (put part : List ℕ → Type 0) (issued released items : ℕ)
+    → turn < limit → step_from s ≡ Some (event, next) → ((h : List Event) → seen h → seen' (h ++ event ∷ [])) → ((h : List Event) → seen' h → refused ≡ is_some (first_step (findings kind code h)))
+    → ((bytes : List ℕ) → put bytes → part (bytes ++ passed refused event)) → ((p q : List ℕ) → IsPrefix p q → part p → part q)
+    → IsUnderWay code kind limit turn start s seen put issued released items → part (map (λ byte. byte.1) (released_of code (run_from limit start) (kind ∷ [])))
+fails_within code kind limit turn start s next event refused seen seen' put part issued released items lt is see_more refused_is put_part part_front way =
+    let (fewer, left_is) = more_left way.left turn limit way.left_is lt in
+    let step = step_from-IsStep s event next is in
+    let below : Below next.step (way.so_far ++ event ∷ []) = subst (λ n. Below n (way.so_far ++ event ∷ [])) (sym step.counted) (Below-more s.step way.so_far event way.counted.below step.numbered) in
+    let out = let_out-more code kind way.so_far event s.step refused way.counted.below step.numbered (refused_is (way.so_far ++ event ∷ []) (see_more way.so_far way.counted.seen_it)) in
+    let front = front_by_status code kind fewer way.so_far s next event (run_from limit start) (way.goes ∙ ap (λ n. after_events way.so_far (run_from n s)) left_is) is below (power_status event) refl in
+    let same : let_out code kind (way.so_far ++ event ∷ []) next.step ≡ let_out code kind way.so_far s.step ++ passed refused event = ap (let_out code kind (way.so_far ++ event ∷ [])) step.counted ∙ out in
+    part_front (let_out code kind way.so_far s.step ++ passed refused event) (map (λ byte. byte.1) (released_of code (run_from limit start) (kind ∷ [])))
+    (subst (λ l. IsPrefix l (map (λ byte. byte.1) (released_of code (run_from limit start) (kind ∷ [])))) same front) (put_part (let_out code kind way.so_far s.step) way.counted.put_it)
+
+-- an event sends at most one byte, and has at most one record behind it
+pub sent_short : (event : Event) → length (sent event) ≤ 1
+sent_short event = by_case (serial_byte event)
+  where
+    by_case : (o : Option ℕ) → length (map (λ (byte : ℕ × ℕ). byte.1) (cons_option (option_map (λ byte. (step_of event, byte)) o) [])) ≤ 1
+    by_case None = omega arith
+    by_case (Some byte) = omega arith
+
+pub passed_short : (refused : Bool) (event : Event) → length (passed refused event) ≤ 1
+passed_short true event = omega arith
+passed_short false event = sent_short event
+
+pub records_short : (event : Event) → length (records_of event) ≤ 1
+records_short event = elim (is_some (serial_byte event) || (step_of event + 1) % 256 == 0) as (λ b. length (cond b (Reach (step_of event + 1) ∷ []) []) ≤ 1) [ true ↦ omega arith | false ↦ omega arith ]
+
+-- what an analysis says of its first finding, in terms of what it was made of at first
+pub refused_by : (made now : List ℕ) (first : Option ℕ) (refused : Bool) (h : List Event) → now ≡ made → refused ≡ is_some first → first ≡ first_step (findings (kind_made_of now) (code_made_of now) h)
+    → refused ≡ is_some (first_step (findings (kind_made_of made) (code_made_of made) h))
+refused_by made now first refused h same is says = subst (λ m. refused ≡ is_some (first_step (findings (kind_made_of m) (code_made_of m) h))) same (is ∙ ap is_some says)
