@@ -1,6 +1,7 @@
 //! The outside of a run: sinks that take bytes, files that give them, fakes in memory and adapters of the host.
 #![tactic(auto)]
 
+mod entries;
 mod entry;
 mod files;
 mod memory_files;
@@ -18,3 +19,6 @@ pub use reading::{FileFault, read_all};
 pub use sink::{Failed, Sink};
 pub use std_files::StdFiles;
 pub use std_sink::StdSink;
+
+#[cfg(test)]
+mod tests;

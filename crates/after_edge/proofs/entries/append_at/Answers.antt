@@ -1,7 +1,7 @@
 use Rattle.std.proofs.Common.{not, sym, ◌∙◌, ap}
 use Rattle.after_edge.specs.MemoryFiles.{appended, has_no_place}
 use Rattle.after_edge.proofs.MemoryFilesLaws.{entry_of-found, entry_of-missed, changed-found, changed-missed}
-use Rattle.after_edge.proofs.memory_files.append_at.Goals as goal
+use Rattle.after_edge.proofs.entries.append_at.Goals as goal
 
 pub returns-in-Some-clause-after : goal.returns-in-Some-clause-after
 returns-in-Some-clause-after c = changed-found c.args.name.now c.args.entries.now.items c.deref.result.now c.deref.ensures.value (appended c.args.piece.now) _ _ _ c.in-Some.ensures c.index_mut-entry.ensures.value c.append.ensures.after

@@ -2,7 +2,7 @@ use Rattle.std.proofs.Common.{refl, sym, ◌∙◌, ap}
 use Rattle.std.specs.Option.{option_and_then}
 use Rattle.after_edge.specs.MemoryFiles.{Kept}
 use Rattle.after_edge.proofs.MemoryFilesLaws.{entry_of-found, entry_of-missed}
-use Rattle.after_edge.proofs.memory_files.file_at.Goals as goal
+use Rattle.after_edge.proofs.entries.file_at.Goals as goal
 
 pub returns-in-Some : goal.returns-in-Some
 returns-in-Some c =

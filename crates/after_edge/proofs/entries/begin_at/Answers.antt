@@ -1,7 +1,7 @@
 use Rattle.std.proofs.Common.{is_some, sym, ap}
 use Rattle.after_edge.specs.MemoryFiles.{begun}
 use Rattle.after_edge.proofs.MemoryFilesLaws.{entry_of-found, entry_of-missed, changed-found, changed-missed}
-use Rattle.after_edge.proofs.memory_files.begin_at.Goals as goal
+use Rattle.after_edge.proofs.entries.begin_at.Goals as goal
 
 pub returns-in-Some-clause-after : goal.returns-in-Some-clause-after
 returns-in-Some-clause-after c = changed-found c.args.name.now c.args.entries.now.items c.deref.result.now c.deref.ensures.value begun _ _ _ c.in-Some.ensures c.index_mut-entry.ensures.value c.begin.ensures

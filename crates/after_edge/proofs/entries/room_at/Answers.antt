@@ -1,7 +1,7 @@
 use Rattle.std.proofs.lemmas.Result.{on_ok_weaker}
 use Rattle.after_edge.specs.MemoryFiles.{with_room, with_no_file}
 use Rattle.after_edge.proofs.MemoryFilesLaws.{changed_or_added-found, changed_or_added-missed}
-use Rattle.after_edge.proofs.memory_files.room_at.Goals as goal
+use Rattle.after_edge.proofs.entries.room_at.Goals as goal
 
 pub returns-in-Some-clause-ok : goal.returns-in-Some-clause-ok
 returns-in-Some-clause-ok c =
