@@ -1,7 +1,6 @@
 -- What a put to a sink in memory adds.
-use Rattle.std.proofs.Common.{◌≡◌, ℕ, List, ◌++◌, take, drop, Option, sym, ◌∙◌, ap}
+use Rattle.std.proofs.Common.{◌≡◌, ℕ, List, ◌++◌, drop, Option, ◌∙◌, ap}
 use Rattle.std.proofs.lemmas.List.{take-append-drop}
-use Rattle.list_laws.specs.Prefix.{IsPrefix}
 use Rattle.after_edge.specs.Sink.{AddsPart}
 use Rattle.after_edge.specs.MemorySink.{SinkState, HoldsBytes, part_taken}
 

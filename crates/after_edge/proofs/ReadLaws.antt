@@ -1,10 +1,9 @@
 -- Reading a file piece by piece: the bytes so far are a front of what the name has.
-use Rattle.std.proofs.Common.{◌≡◌, ℕ, ◌+◌, ◌-◌, ◌<◌, ◌≤◌, List, [], ◌++◌, length, take, drop, Option, Some, None, unwrap_or, sym, ◌∙◌, ap, subst, inl, inr, append_assoc, append-nil, length-append, arith}
+use Rattle.std.proofs.Common.{◌≡◌, ℕ, ◌+◌, ◌-◌, ◌<◌, ◌≤◌, List, [], ◌++◌, length, take, drop, Option, Some, unwrap_or, sym, ◌∙◌, ap, subst, inl, inr, append_assoc, append-nil, length-append, arith}
 use Rattle.std.proofs.lemmas.List.{nil_from_length, take-append-drop}
 use Rattle.std.proofs.Math.Seq.{drop-append_seam}
 use Rattle.list_laws.specs.Prefix.{IsPrefix}
-use Rattle.after_edge.specs.Files.{Contents, IfTold, Reads, IsAbsent, HasAbsentCause}
-use Rattle.after_edge.specs.Fault.{Rose}
+use Rattle.after_edge.specs.Files.{Contents, IfTold, Reads, HasAbsentCause}
 use Rattle.after_edge.specs.Reading.{IsLonger, BeginsFile, HasRead}
 use Rattle.after_edge.proofs.FaultLaws.{Rose-before}
 

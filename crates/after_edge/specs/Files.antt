@@ -1,5 +1,5 @@
 -- What the calls of files read and change.
-use Rattle.std.specs.Prelude.{◌≡◌, ◌≢◌, ◌⊎◌, ℕ, ◌+◌, ◌-◌, ◌<◌, ◌≤◌, List, [], ◌++◌, length, take, drop, Option, Some, None, Result, Ok, Err, unwrap_or}
+use Rattle.std.specs.Prelude.{◌≡◌, ◌≢◌, ◌⊎◌, ℕ, ◌-◌, ◌<◌, ◌≤◌, List, [], ◌++◌, length, take, drop, Option, Some, None, Result, Ok, Err, unwrap_or}
 use Rattle.list_laws.specs.Prefix.{IsPrefix}
 use Rattle.after_edge.specs.declared.files.ReadFault.{ReadFault}
 use Rattle.after_edge.specs.declared.files.ReadFault.TheVariants.{Absent, Failed}

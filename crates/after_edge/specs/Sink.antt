@@ -1,5 +1,5 @@
 -- What a put does to the bytes that a sink holds.
-use Rattle.std.specs.Prelude.{◌≡◌, ℕ, List, ◌++◌}
+use Rattle.std.specs.Prelude.{ℕ, List, ◌++◌}
 use Rattle.list_laws.specs.Prefix.{IsPrefix}
 
 -- whatever list the sink held, it then holds that list followed by the piece

@@ -20,6 +20,11 @@ lines-front f xs i = record {
   joined = sym (flat_map-append f (take i xs) (drop i xs)) ∙ ap (λ l. flat_map f l) (take-append-drop i xs);
 }
 
+-- the next line was added
+pub Adds-next : {X S : Type 0} (holds : S → List ℕ → Type 0) (a b c : S) (f : X → List ℕ) (xs : List X) (i : ℕ) (d : X) (piece : List ℕ) → i < length xs → piece ≡ f (get_or xs i d)
+    → Adds holds a b (flat_map f (take i xs)) → Adds holds b c piece → Adds holds a c (flat_map f (take (i + 1) xs))
+Adds-next holds a b c f xs i d piece h is first second = Adds-same holds a c (lines-more f xs i d h) (Adds-then holds a b c _ _ first (Adds-same holds b c is second))
+
 -- all lines were added
 pub Adds-all : {X S : Type 0} (holds : S → List ℕ → Type 0) (a b : S) (f : X → List ℕ) (xs : List X) (i : ℕ) → length xs ≤ i
     → Adds holds a b (flat_map f (take i xs)) → Adds holds a b (flat_map f xs)
@@ -36,8 +41,3 @@ AddsPart-next holds a b c f xs i d piece h is first second =
 -- an element of a list's front
 pub shown : {X : Type 0} (xs : List X) (n i : ℕ) (d x : X) → i < n → slice_get xs i ≡ Some x → get_or (take n xs) i d ≡ x
 shown xs n i d x h e = get_or-take n xs i d h ∙ get_or_from_slice_get xs i x d e
-
--- the next line was added
-pub Adds-next : {X S : Type 0} (holds : S → List ℕ → Type 0) (a b c : S) (f : X → List ℕ) (xs : List X) (i : ℕ) (d : X) (piece : List ℕ) → i < length xs → piece ≡ f (get_or xs i d)
-    → Adds holds a b (flat_map f (take i xs)) → Adds holds b c piece → Adds holds a c (flat_map f (take (i + 1) xs))
-Adds-next holds a b c f xs i d piece h is first second = Adds-same holds a c (lines-more f xs i d h) (Adds-then holds a b c _ _ first (Adds-same holds b c is second))

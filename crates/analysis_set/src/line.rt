@@ -85,6 +85,7 @@ impl Line {
         self.bytes.as_slice()
     }
 
+    // The callers see to the room, so that the bytes always fit.
     fn add(&mut self, bytes: &[u8])
         requires { length self.old + length bytes.now ≤ 128 }
         ensures { self.new ≡ self.old ++ bytes.now }

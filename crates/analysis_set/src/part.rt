@@ -28,6 +28,7 @@ pub fn report_part<O: Sink>(analysis: &AnyAnalysis, out: &mut O) -> Result<(), F
     }
 }
 
+// The lines of coverage.
 fn cover_part<O: Sink>(coverage: &Coverage, out: &mut O) -> Result<(), Failed>
     ensures ok { OnOk result (Adds O.holds out.old out.new (cover_text (summary_now coverage.now))) }
     ensures err { OnErr result (AddsPart O.holds out.old out.new (cover_text (summary_now coverage.now))) }

@@ -10,6 +10,7 @@ use crate::lines;
 use after_edge::{Failed, Sink};
 use run_events::{Finding, Kind};
 
+// Each of the lines, in order.
 pub(crate) fn put_lines<O: Sink>(all: &[Line], out: &mut O) -> Result<(), Failed>
     ensures ok { OnOk result (Adds O.holds out.old out.new (concat all.now)) }
     ensures err { OnErr result (AddsPart O.holds out.old out.new (concat all.now)) }

@@ -2,7 +2,6 @@
 use Rattle.std.proofs.Common.{◌≡◌, ℕ, suc, ◌+◌, ◌<◌, length, drop, get_or, true, false, Bool, ◌||◌, List, [], ◌∷◌, ◌++◌, refl, sym, ap, ◌∙◌, append_assoc, add-one}
 use Rattle.std.proofs.Math.Seq.{drop-cons}
 use Rattle.machine_model.specs.Image.{Segment}
-use Rattle.std.specs.List.{list_any}
 use Rattle.analysis_model.specs.Cover.{is_within}
 use Rattle.analysis_model.specs.Made.{code_numbers, spans_made_of}
 use Rattle.coverage_map.specs.declared.area.Area.{Area}

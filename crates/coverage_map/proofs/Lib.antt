@@ -1,5 +1,6 @@
 mod AreaLaws
 mod AscendingLaws
+pub mod ExecutedLaws
 mod MarkLaws
 mod PlaceLaws
 mod RangeLaws

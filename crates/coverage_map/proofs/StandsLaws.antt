@@ -1,5 +1,5 @@
 -- What coverage stands for, with one event more, and what it tells then.
-use Rattle.std.proofs.Common.{◌≡◌, ℕ, ◌+◌, ◌-◌, ◌*◌, ◌/◌, ◌%◌, ◌<◌, ◌≤◌, true, List, [], ◌∷◌, ◌++◌, length, set, Option, None, Some, refl, sym, ap, ◌∙◌, arith, append-nil}
+use Rattle.std.proofs.Common.{◌≡◌, ℕ, ◌+◌, ◌-◌, ◌*◌, ◌/◌, ◌<◌, true, List, [], ◌∷◌, ◌++◌, length, Option, None, Some, refl, sym, ap, ◌∙◌, arith, append-nil}
 use Rattle.std.specs.List.{filter_map, cons_option}
 use Rattle.std.proofs.lemmas.List.{length-set}
 use Rattle.std.proofs.lemmas.List.Elements.{filter_map-append}
@@ -10,15 +10,15 @@ use Rattle.run_events.specs.declared.finding.Finding.{Finding}
 use Rattle.run_events.specs.declared.finding.Kind.TheVariants.{Cover}
 use Rattle.run_events.specs.Event.{Fits, IsWordInRam}
 use Rattle.analysis_model.specs.Ascending.{with_member, ascending}
-use Rattle.analysis_model.specs.Cover.{Span, executed_pc, executed_pcs, outside, outside_at}
+use Rattle.analysis_model.specs.Cover.{Span, executed_pc, executed_pcs, outside}
 use Rattle.analysis_model.specs.Findings.{findings}
 use Rattle.analysis_model.specs.Made.{code_made_of}
 use Rattle.analysis_model.specs.Report.{cover_summary}
 use Rattle.finding_tally.specs.Tallied.{Tallied, Tallies}
 use Rattle.finding_tally.proofs.TalliedLaws.{tallied_more}
-use Rattle.coverage_map.specs.Coverage.{Covered, make_now, marked, Stands, summary_now, with_mark, tallied_with, with_outside, after}
+use Rattle.coverage_map.specs.Coverage.{Covered, make_now, marked, Stands, summary_now, with_mark, tallied_with, after}
 use Rattle.coverage_map.proofs.AscendingLaws.{ascending-last}
-use Rattle.coverage_map.proofs.MarkLaws.{marked_from-none, marked_from-set}
+use Rattle.coverage_map.proofs.MarkLaws.{marked_from-set}
 
 -- what it tells is what the events it has seen have to tell
 pub summary_now-seen : (c : Covered) (h : List Event) → Stands c h → summary_now c ≡ cover_summary (code_made_of (make_now c)) h

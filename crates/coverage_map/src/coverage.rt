@@ -5,6 +5,7 @@ ghost use Rattle.run_events.specs.Event.{Fits, IsWordInRam};
 ghost use Rattle.analysis_model.specs.Made.{make_of, code_made_of};
 ghost use Rattle.analysis_model.specs.Report.{Summary, cover_summary};
 ghost use Rattle.coverage_map.specs.Coverage.{Covered, Stands, make_now, summary_now, with_mark, with_outside, after};
+ghost use Rattle.coverage_map.specs.Executed.{AreExecuted};
 
 use crate::area::{Area, code_of, is_code};
 use crate::ranges::{count_marks, count_ranges, find_range};
@@ -99,6 +100,8 @@ impl Coverage {
     pub fn ranges(&self) -> u64
         ensures now { result ≡ length (summary_now self.now).ranges }
         ensures seen { (h : List Event) → Stands self.now h → result ≡ length (cover_summary (code_made_of (make_now self.now)) h).ranges }
+        // what a reader knows of them: they ascend, lie apart, and have exactly the executed bytes
+        ensures executed { (h : List Event) → Stands self.now h → AreExecuted (summary_now self.now).ranges h }
     {
         count_ranges(&self.marks)
     }

@@ -1,4 +1,4 @@
-ghost use Rattle.std.specs.Prelude.{◌≡◌, ◌%◌, ◌<◌, ◌≤◌};
+ghost use Rattle.std.specs.Prelude.{◌≡◌, ◌%◌, ◌<◌};
 ghost use Rattle.run_events.specs.Event.{Fits};
 
 use crate::Coverage;
@@ -75,7 +75,10 @@ fn tells_ranges_and_findings(rt: HostRuntime) -> Result<(), Fail> {
     assert_eq!(rt; range_at(&coverage, 1), Some((0x8000_001C, 0x8000_0024)));
     assert_eq!(rt; range_at(&coverage, 2), Some((0x8000_FFFC, 0x8001_0000)));
     assert_eq!(rt; (coverage.first(), coverage.count()), (Some(7), 2));
-    assert_eq!(rt; coverage.kept()[1].address, 0x8000_FFFC);
+    assert_eq!(rt;
+        coverage.kept().last().map(|finding| finding.address),
+        Some(0x8000_FFFC)
+    );
     Ok(())
 }
 

@@ -1,4 +1,4 @@
-use Rattle.std.proofs.Common.{◌≡◌, ℕ, ◌+◌, ◌-◌, ◌<◌, ◌≤◌, Some, List, [], ◌++◌, length, take, vec_len, refl, sym, ◌∙◌, arith, rules}
+use Rattle.std.proofs.Common.{◌≡◌, ◌-◌, ◌<◌, ◌++◌, length, take, refl, ◌∙◌, arith, rules}
 use Rattle.list_laws.proofs.PrefixLaws.{empty_IsPrefix}
 use Rattle.after_edge.proofs.ReadLaws.{HasRead-end, HasRead-next, HasRead-longer, HasRead-absent}
 use Rattle.after_edge.proofs.reading.read_through.Goals as goal

@@ -1,4 +1,4 @@
-use Rattle.std.proofs.Common.{◌≡◌, List, [], ◌∷◌, ◌++◌, ◌∙◌, ap, drop, ◌+◌}
+use Rattle.std.proofs.Common.{◌≡◌, [], ◌∷◌, ◌++◌, ◌∙◌, ap, drop, ◌+◌}
 use Rattle.coverage_map.specs.declared.area.Area.{Area}
 use Rattle.machine_model.specs.Image.{Segment}
 use Rattle.coverage_map.proofs.AreaLaws.{code_goes_on, code_takes, code_skips}

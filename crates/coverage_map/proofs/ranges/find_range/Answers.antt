@@ -1,4 +1,4 @@
-use Rattle.std.proofs.Common.{◌≡◌, ◌<◌, ◌∷◌, ◌∙◌, length, drop, ap, arith, rules, add-one}
+use Rattle.std.proofs.Common.{◌≡◌, ◌∷◌, ◌∙◌, drop, ap, arith, rules, add-one}
 use Rattle.analysis_model.specs.Cover.{Span, runs}
 use Rattle.coverage_map.specs.Coverage.{marked}
 use Rattle.coverage_map.specs.Places.{marked_behind}

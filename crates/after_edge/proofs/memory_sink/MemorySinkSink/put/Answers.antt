@@ -1,4 +1,4 @@
-use Rattle.std.proofs.Common.{◌≡◌, ◌-◌, ◌++◌, sym, ◌∙◌, ap}
+use Rattle.std.proofs.Common.{◌-◌, ◌++◌, ◌∙◌, ap}
 use Rattle.after_edge.specs.MemorySink.{SinkState}
 use Rattle.after_edge.proofs.MemorySinkLaws.{part_taken-AddsPart}
 use Rattle.after_edge.proofs.memory_sink.MemorySinkSink.put.Goals as goal

@@ -1,5 +1,4 @@
-use Rattle.std.proofs.Common.{◌≡◌, ◌∙◌, ◌*◌, false, replicate, length, ap, rules}
-use Rattle.std.proofs.lemmas.List.{length-replicate}
+use Rattle.std.proofs.Common.{◌≡◌, ◌∙◌, ◌*◌, false, replicate, ap, rules}
 use Rattle.memory_map.specs.declared.TheConstants.{RAM_START}
 use Rattle.coverage_map.specs.Coverage.{marked_from}
 use Rattle.coverage_map.proofs.MarkLaws.{marked_from-none}

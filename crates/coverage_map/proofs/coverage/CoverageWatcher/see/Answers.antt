@@ -1,4 +1,3 @@
-use Rattle.std.proofs.Common.{rules}
 use Rattle.coverage_map.proofs.StandsLaws.{Stands-more}
 use Rattle.coverage_map.proofs.coverage.CoverageWatcher.see.Goals as goal
 
