@@ -1,2 +1,3 @@
 mod InputLaws
+mod JobLaws
 mod RunLoop

@@ -4,5 +4,6 @@
 mod command_words;
 mod guard_run;
 mod inputs;
+mod running;
 mod rv_devices;
 mod rv_machine;
