@@ -1,3 +1,5 @@
+mod AnswerLaws
+mod DefaultJob
 mod InputLaws
 mod JobLaws
 mod RunLoop

@@ -1,5 +1,7 @@
+pub mod Answer
 pub mod Inputs
 pub mod Job
 pub mod JobFault
+pub mod Means
 pub mod Passing
 pub mod Words

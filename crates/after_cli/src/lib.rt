@@ -7,3 +7,6 @@ mod inputs;
 mod running;
 mod rv_devices;
 mod rv_machine;
+mod top;
+
+pub use top::{Outcome, aftersight_plain};

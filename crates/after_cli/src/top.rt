@@ -1,0 +1,140 @@
+ghost use Rattle.std.specs.Prelude.{◌≡◌, ◌≤◌, length, map, string_bytes};
+ghost use Rattle.after_cli.specs.Answer.{IsDone, OutputHasFailed, FilesHaveFailed, IsNotBuilt, IsOfDone, IsOfRefusal, IsStatus, TellsLine, line_of};
+ghost use Rattle.after_cli.specs.Means.{Means, number_of, answer_to};
+
+use crate::command_words::run_words;
+use crate::inputs::{Refusal, read_inputs};
+use crate::running::{JobFault, run_job};
+use after_edge::{Files, Sink};
+use std::alloc::Global;
+
+/// The RAM of a guest, in KiB.
+const RAM_KIB: u32 = 1024;
+
+/// The most steps of a run.
+const LIMIT: u32 = 10_000_000;
+
+/// What a call of the program comes to.
+#[derive(Clone, Copy, Debug, PartialEq, Eq)]
+pub struct Outcome {
+    /// The exit status.
+    pub status: u8,
+}
+
+// What the words and the files come to.
+#[derive(Clone, Copy)]
+enum Answer {
+    Done { status: u8 },
+    FilesFailed,
+    OutputFailed,
+    NoMemory,
+    NotBuilt,
+}
+
+impl Answer {
+    fn status(self) -> u8
+        ensures { result ≡ number_of self }
+    {
+        match self {
+            Answer::Done { status } => status,
+            Answer::FilesFailed => 5,
+            Answer::OutputFailed => 6,
+            Answer::NoMemory => 9,
+            Answer::NotBuilt => 10,
+        }
+    }
+
+    fn of_refusal(refusal: Refusal) -> Answer
+        ensures { result ≡ answer_to refusal }
+    {
+        match refusal {
+            Refusal::FilesFailed => Answer::FilesFailed,
+            Refusal::NotBuilt => Answer::NotBuilt,
+            Refusal::NoMemory => Answer::NoMemory,
+        }
+    }
+}
+
+// Reads the files of a run and runs it.
+fn answer_words<F: Files, O: Sink>(
+    alloc: Global,
+    words: &[String],
+    files: &mut F,
+    out: &mut O,
+) -> Answer
+    ensures means { Means (F.content files.old) (map string_bytes words.now) (F.faults files.old) (F.faults files.new) O.holds O.faults out.old out.new result }
+    ensures same { F.content files.new ≡ F.content files.old }
+    ensures files_later { F.faults files.old ≤ F.faults files.new }
+    ensures out_later { O.faults out.old ≤ O.faults out.new }
+{
+    let Some(run) = run_words(words) else {
+        return Answer::NotBuilt;
+    };
+    let file = match read_inputs(alloc, files, run.image, run.script) {
+        Ok(file) => file,
+        Err(refusal) => return Answer::of_refusal(refusal),
+    };
+    match run_job(alloc, file, RAM_KIB, LIMIT, out) {
+        Ok(status) => Answer::Done { status },
+        Err(JobFault::NoMemory) => Answer::NoMemory,
+        Err(JobFault::OutputFailed) => Answer::OutputFailed,
+    }
+}
+
+// Tells why a call did no run. A failure to tell it changes nothing else.
+#[tactic(auto, unfolding(crate::specs::Answer::line_of))]
+fn tell<E: Sink>(status: u8, err: &mut E)
+    ensures told { TellsLine E.holds E.faults err.old err.new (line_of status) }
+    ensures quiet { IsOfDone status → err.new ≡ err.old }
+{
+    let line: &[u8] = match status {
+        5 => b"files: failed\n",
+        6 => b"output failed\n",
+        9 => b"no memory\n",
+        10 => b"not built\n",
+        _ => return,
+    };
+    let _ = err.put(line);
+}
+
+/// The program on one thread: the words of a command line, and the files and sinks of its outside.
+///
+/// It runs `run IMAGE SCRIPT --with cover`: IMAGE is a flat guest of at most 1,048,576 bytes, SCRIPT is empty. The
+/// guest's output goes to `out` up to the first step that coverage refuses, then the report. It always returns.
+///
+/// - 0, 1, 8, 11: the run was done, and `out` got the job's whole text. 0 after power with no finding, 1 with a finding,
+///   8 after the step limit with no finding, 11 where the run came to a step that is not built yet.
+/// - 5: a file is absent, or `files` failed. Nothing was added to `out`.
+/// - 6: a put of `out` failed. Some front of the job's text was added.
+/// - 9: want of memory, which nothing causes. Nothing was added to `out`.
+/// - 10: the words or the files are not those of a run that is built. Nothing was added to `out`.
+///
+/// A refusal, and status 6, writes its line on `err`; a failure of `err` changes no answer. No file is changed.
+pub fn aftersight_plain<F: Files, O: Sink, E: Sink>(
+    alloc: Global,
+    words: &[String],
+    files: &mut F,
+    out: &mut O,
+    err: &mut E,
+) -> Outcome
+    ensures status { IsStatus result.status }
+
+    // The run was done: what was added to the output is the text of its job, and the status is the job's.
+    ensures done { IsOfDone result.status → IsDone (F.content files.old) (map string_bytes words.now) O.holds out.old out.new result.status }
+
+    // Each other status has its cause.
+    ensures output_failed { result.status ≡ 6 → OutputHasFailed (F.content files.old) (map string_bytes words.now) O.holds O.faults out.old out.new }
+    ensures files_failed { result.status ≡ 5 → FilesHaveFailed (F.content files.old) (map string_bytes words.now) (F.faults files.old) (F.faults files.new) }
+    ensures not_built { result.status ≡ 10 → IsNotBuilt (F.content files.old) (map string_bytes words.now) }
+
+    // What stands afterwards.
+    ensures refused { IsOfRefusal result.status → out.new ≡ out.old }
+    ensures told { TellsLine E.holds E.faults err.old err.new (line_of result.status) }
+    ensures quiet { IsOfDone result.status → err.new ≡ err.old }
+    ensures files { F.content files.new ≡ F.content files.old }
+{
+    let answer = answer_words(alloc, words, files, out);
+    let status = answer.status();
+    tell(status, err);
+    Outcome { status }
+}
