@@ -4,8 +4,19 @@ use Rattle.std.proofs.lemmas.List.{nil_from_length, take-append-drop}
 use Rattle.std.proofs.Math.Seq.{drop-append_seam}
 use Rattle.list_laws.specs.Prefix.{IsPrefix}
 use Rattle.after_edge.specs.Files.{Contents, IfTold, Reads, HasAbsentCause}
-use Rattle.after_edge.specs.Reading.{IsLonger, BeginsFile, HasRead}
+use Rattle.after_edge.specs.Reading.{IsLonger}
 use Rattle.after_edge.proofs.FaultLaws.{Rose-before}
+
+-- these bytes begin the named file; a name without one has only the empty beginning
+pub record BeginsFile (files : Contents) (name bytes : List ℕ) : Type 0 where
+  pub front : IsPrefix bytes (unwrap_or (files name) [])
+
+-- how far a file was read: a front of it, within the limit; until the first piece came the count stood still
+pub record HasRead (content : Option Contents) (name bytes : List ℕ) (max before now : ℕ) : Type 0 where
+  pub begins : IfTold content (λ files. BeginsFile files name bytes)
+  pub within : length bytes ≤ max
+  pub untouched : length bytes ≡ 0 → now ≡ before
+  pub later : before ≤ now
 
 -- what begins the file that the name has
 front_of_file : (files : Contents) (name bytes whole : List ℕ) → files name ≡ Some whole → BeginsFile files name bytes → IsPrefix bytes whole

@@ -1,5 +1,5 @@
 use Rattle.std.proofs.Common.{◌≡◌, ◌-◌, vec_len}
-use Rattle.after_edge.specs.Reading.{HasRead}
+use Rattle.after_edge.proofs.ReadLaws.{HasRead}
 use Rattle.after_edge.proofs.reading.read_through.Given as goal
 
 abbrev pub invariant-pieces : goal.invariant-pieces
