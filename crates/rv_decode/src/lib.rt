@@ -1,0 +1,11 @@
+//! The instructions of RV32IMA with Zicsr and Zifencei: which words they are, and back.
+#![tactic(auto)]
+
+mod decoder;
+mod fields;
+mod instruction;
+mod operations;
+
+pub use decoder::decode;
+pub use instruction::Instr;
+pub use operations::{AtomicOp, BranchOp, CsrOp, FenceOp, ImmOp, LoadOp, RegOp, StoreOp};
