@@ -1,6 +1,6 @@
 -- The listing of the instructions: a row for each, with what its fields must be and what its words read. (Unprivileged
 -- manual, chapter 24; the privileged manual's listing for MRET and WFI.)
-use Rattle.std.specs.Prelude.{ℕ, Bool, ◌&&◌, ◌==◌, ℤ, pos, List, [], ◌∷◌, ◌++◌, Option, None, Some, if◌then◌else◌}
+use Rattle.std.specs.Prelude.{ℕ, Bool, ◌&&◌, ◌==◌, pos, List, [], ◌∷◌, ◌++◌, Option, None, Some, if◌then◌else◌}
 use Rattle.std.specs.List.{list_all}
 use Rattle.rv_decode.specs.declared.instruction.Instr.{Instr}
 use Rattle.rv_decode.specs.declared.instruction.Instr.TheVariants.{Lui, Auipc, Jal, Jalr, Branch, Load, Store, OpImm, Op, Fence, Atomic, Csr, Ecall, Ebreak, Mret, Wfi}
@@ -15,7 +15,7 @@ use Rattle.rv_decode.specs.declared.operations.ImmOp.TheVariants.{Addi, Slti, Sl
 use Rattle.rv_decode.specs.declared.operations.RegOp.{RegOp}
 use Rattle.rv_decode.specs.declared.operations.RegOp.TheVariants.{Add, Sll, Slt, Sltu, Xor, Srl, Or, And, Sub, Sra, Mul, Mulh, Mulhsu, Mulhu, Div, Divu, Rem, Remu}
 use Rattle.rv_decode.specs.declared.operations.FenceOp.{FenceOp}
-use Rattle.rv_decode.specs.declared.operations.FenceOp.TheVariants as fence
+use Rattle.rv_decode.specs.declared.operations.FenceOp.TheVariants as ordering
 use Rattle.rv_decode.specs.declared.operations.AtomicOp.{AtomicOp}
 use Rattle.rv_decode.specs.declared.operations.AtomicOp.TheVariants as amo
 use Rattle.rv_decode.specs.declared.operations.CsrOp.{CsrOp}
@@ -108,8 +108,8 @@ shift op word = OpImm op (rd_of word) (rs1_of word) (pos (rs2_of word))
 abbrev pub register : RegOp → ℕ → Instr
 register op word = Op op (rd_of word) (rs1_of word) (rs2_of word)
 
-abbrev pub fence_by : FenceOp → ℕ → Instr
-fence_by op word = Fence op (rd_of word) (rs1_of word) (immediate_i word)
+abbrev pub fence : FenceOp → ℕ → Instr
+fence op word = Fence op (rd_of word) (rs1_of word) (immediate_i word)
 
 abbrev pub atomic : AtomicOp → ℕ → Instr
 atomic op word = Atomic op (rd_of word) (rs1_of word) (rs2_of word) (order_of word)
@@ -120,8 +120,11 @@ csr op word = Csr op (rd_of word) (rs1_of word) (funct12_of word)
 abbrev pub uppers : List Row
 uppers = row 0x37 [] lui ∷ row 0x17 [] auipc ∷ []
 
-abbrev pub jumps : List Row
-jumps = row 0x6f [] jal ∷ row3 0x67 0 jalr ∷ []
+abbrev pub jals : List Row
+jals = row 0x6f [] jal ∷ []
+
+abbrev pub jalrs : List Row
+jalrs = row3 0x67 0 jalr ∷ []
 
 abbrev pub branches : List Row
 branches =
@@ -181,7 +184,7 @@ registers =
     ∷ []
 
 abbrev pub fences : List Row
-fences = row3 0x0f 0 (fence_by fence.Fence) ∷ row3 0x0f 1 (fence_by fence.FenceI) ∷ []
+fences = row3 0x0f 0 (fence ordering.Fence) ∷ row3 0x0f 1 (fence ordering.FenceI) ∷ []
 
 abbrev pub row_atomic : ℕ → AtomicOp → Row
 row_atomic funct5 op = row 0x2f (is Funct3 2 ∷ is Funct5 funct5 ∷ []) (atomic op)
@@ -219,7 +222,7 @@ abbrev pub bares : List Row
 bares = row_bare 0x000 Ecall ∷ row_bare 0x001 Ebreak ∷ row_bare 0x302 Mret ∷ row_bare 0x105 Wfi ∷ []
 
 unfoldable pub rows : List Row
-rows = uppers ++ jumps ++ branches ++ loads ++ stores ++ immediates ++ registers ++ fences ++ atomics ++ csrs ++ bares
+rows = uppers ++ jals ++ jalrs ++ branches ++ loads ++ stores ++ immediates ++ registers ++ fences ++ atomics ++ csrs ++ bares
 
 -- the instruction that a word spells, if it meets a row
 unfoldable pub instruction : ℕ → Option Instr

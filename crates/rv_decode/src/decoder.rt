@@ -1,40 +1,39 @@
 ghost use Rattle.std.specs.Prelude.{◌≡◌, ℕ, ◌%◌, ◌^◌, ◌++◌};
 ghost use Rattle.rv_decode.specs.Fields.{opcode_of};
-ghost use Rattle.rv_decode.specs.Listing.{read_by, instruction, uppers, jumps, branches, loads, stores, immediates, registers, fences, atomics, csrs, bares, branch as branch_row, load as load_row, store as store_row, immediate, shift as shift_row, register as register_row, fence_by, atomic as atomic_row, csr as csr_row};
+ghost use Rattle.rv_decode.specs.Listing.{instruction};
 
-use crate::fields::{funct3, imm_b, imm_i, imm_j, imm_s, imm_u, rd, rs1, rs2};
+use crate::fields::{imm_j, imm_u, rd};
+use crate::groups::{atomic, branch, fence, immediate, jalr, load, register, store, system};
 use crate::instruction::Instr;
-use crate::operations::{AtomicOp, BranchOp, CsrOp, FenceOp, ImmOp, LoadOp, RegOp, StoreOp};
 
-fn branch_of(op: BranchOp, word: u32) -> Instr
-    ensures { result ≡ branch_row op word }
+#[tactic(auto, using(crate::proofs::ListingLaws::opcodes))]
+/// The instruction that a word spells, or `None` where the manual's listing has no row for it. (Unprivileged manual,
+/// chapter 24.)
+pub fn decode(word: u32) -> Option<Instr>
+    ensures { result ≡ instruction word }
 {
-    Instr::Branch {
-        op,
-        rs1: rs1(word),
-        rs2: rs2(word),
-        imm: imm_b(word),
-    }
-}
-
-fn branch(word: u32) -> Option<Instr>
-    requires { opcode_of word ≡ 0x63 }
-    ensures { result ≡ read_by branches word }
-{
-    match funct3(word) {
-        0 => Some(branch_of(BranchOp::Beq, word)),
-        1 => Some(branch_of(BranchOp::Bne, word)),
-        4 => Some(branch_of(BranchOp::Blt, word)),
-        5 => Some(branch_of(BranchOp::Bge, word)),
-        6 => Some(branch_of(BranchOp::Bltu, word)),
-        7 => Some(branch_of(BranchOp::Bgeu, word)),
-        _ => None,
-    }
-}
-
-pub fn decode(word: u32) -> Option<Instr> {
-    match word & 127 {
+    match word % 128 {
+        0x37 => Some(Instr::Lui {
+            rd: rd(word),
+            imm: imm_u(word),
+        }),
+        0x17 => Some(Instr::Auipc {
+            rd: rd(word),
+            imm: imm_u(word),
+        }),
+        0x6f => Some(Instr::Jal {
+            rd: rd(word),
+            imm: imm_j(word),
+        }),
+        0x67 => jalr(word),
         0x63 => branch(word),
+        0x03 => load(word),
+        0x23 => store(word),
+        0x13 => immediate(word),
+        0x33 => register(word),
+        0x0f => fence(word),
+        0x2f => atomic(word),
+        0x73 => system(word),
         _ => None,
     }
 }

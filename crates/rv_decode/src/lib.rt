@@ -3,6 +3,7 @@
 
 mod decoder;
 mod fields;
+mod groups;
 mod instruction;
 mod operations;
 
