@@ -1,2 +1,4 @@
 pub mod Fields
 pub mod Listing
+pub mod Valid
+pub mod Words

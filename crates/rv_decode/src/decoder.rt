@@ -1,15 +1,22 @@
-ghost use Rattle.std.specs.Prelude.{◌≡◌, ℕ, ◌%◌, ◌^◌, ◌++◌};
+ghost use Rattle.std.specs.Prelude.{◌≡◌, ℕ, ◌%◌, ◌^◌, ◌++◌, ◌≤◌, count_by};
 ghost use Rattle.rv_decode.specs.Fields.{opcode_of};
-ghost use Rattle.rv_decode.specs.Listing.{instruction};
+ghost use Rattle.rv_decode.specs.Listing.{meets, rows, instruction};
 
 use crate::fields::{imm_j, imm_u, rd};
 use crate::groups::{atomic, branch, fence, immediate, jalr, load, register, store, system};
 use crate::instruction::Instr;
 
-#[tactic(auto, using(crate::proofs::ListingLaws::opcodes))]
 /// The instruction that a word spells, or `None` where the manual's listing has no row for it. (Unprivileged manual,
 /// chapter 24.)
 pub fn decode(word: u32) -> Option<Instr>
+    ensures read { result ≡ instruction word }
+    ensures once { count_by (λ row. meets row word) rows ≤ 1 }
+{
+    by_opcode(word)
+}
+
+#[tactic(auto, using(crate::proofs::ListingLaws::opcodes))]
+fn by_opcode(word: u32) -> Option<Instr>
     ensures { result ≡ instruction word }
 {
     match word % 128 {

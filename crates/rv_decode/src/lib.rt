@@ -6,7 +6,9 @@ mod fields;
 mod groups;
 mod instruction;
 mod operations;
+mod validity;
 
 pub use decoder::decode;
 pub use instruction::Instr;
 pub use operations::{AtomicOp, BranchOp, CsrOp, FenceOp, ImmOp, LoadOp, RegOp, StoreOp};
+pub use validity::is_valid;
