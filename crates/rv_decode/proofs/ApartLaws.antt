@@ -35,7 +35,7 @@ clash f g = place f.field == place g.field && not (f.value == g.value)
 
 clash-apart : (f g : Fixed) (word : ℕ) → clash f g ≡ true → meets_field f word ≡ true → meets_field g word ≡ true → ⊥
 unfolding clash
-clash-apart f g word c p q = 
+clash-apart f g word c p q =
     let a = field-at_place f.field word in
     let b = field-at_place g.field word in
     grind (arith, a, b)
