@@ -1,3 +1,5 @@
 pub mod ApartLaws
 pub mod FieldLaws
 pub mod ListingLaws
+pub mod ReadingLaws
+pub mod RowLaws
