@@ -34,6 +34,34 @@ fields_of_joined opcode rd funct3 rs1 rs2 funct7 a b c d e = record {
     funct7_is = omega arith
   }
 
+pub record FieldsI (word opcode rd funct3 rs1 funct12 : ℕ) : Type 0 where
+  pub opcode_is : opcode_of word ≡ opcode
+  pub rd_is : rd_of word ≡ rd
+  pub funct3_is : funct3_of word ≡ funct3
+  pub rs1_is : rs1_of word ≡ rs1
+  pub funct12_is : funct12_of word ≡ funct12
+
+pub fields_of_joined_i : (opcode rd funct3 rs1 funct12 : ℕ) → opcode < 2 ^ 7 → rd < 2 ^ 5 → funct3 < 2 ^ 3 → rs1 < 2 ^ 5 → FieldsI (joined_i opcode rd funct3 rs1 funct12) opcode rd funct3 rs1 funct12
+fields_of_joined_i opcode rd funct3 rs1 funct12 a b c d = record {
+    opcode_is = omega arith;
+    rd_is = omega arith;
+    funct3_is = omega arith;
+    rs1_is = omega arith;
+    funct12_is = omega arith
+  }
+
+pub record FieldsU (word opcode rd upper : ℕ) : Type 0 where
+  pub opcode_is : opcode_of word ≡ opcode
+  pub rd_is : rd_of word ≡ rd
+  pub upper_is : word / 2 ^ 12 ≡ upper
+
+pub fields_of_joined_u : (opcode rd upper : ℕ) → opcode < 2 ^ 7 → rd < 2 ^ 5 → FieldsU (joined_u opcode rd upper) opcode rd upper
+fields_of_joined_u opcode rd upper a b = record {
+    opcode_is = omega arith;
+    rd_is = omega arith;
+    upper_is = omega arith
+  }
+
 -- the bits of a number that was sign extended
 pub bits_signed_12 : (n : ℕ) → n < 2 ^ 12 → bits_of (signed 12 n) % 2 ^ 12 ≡ n
 bits_signed_12 n fits = grind (arith, ints)

@@ -3,3 +3,4 @@ pub mod FieldLaws
 pub mod ListingLaws
 pub mod ReadingLaws
 pub mod RowLaws
+pub mod SpellingLaws
