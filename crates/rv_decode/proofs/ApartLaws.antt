@@ -1,9 +1,9 @@
 -- No word meets two rows: each two rows differ in the opcode or in a field that both fix.
-use Rattle.std.proofs.Common.{◌≡◌, ℕ, ◌+◌, ◌≤◌, Bool, true, false, List, [], ◌∷◌, refl, sym, ◌∙◌, ap, arith}
+use Rattle.std.proofs.Common.{◌≡◌, ℕ, ◌+◌, ◌≤◌, Bool, true, false, List, [], ◌∷◌, refl, arith}
 use Rattle.std.specs.Prelude.{◌&&◌, ◌||◌, ◌==◌, not, cond, if◌then◌else◌, count_by}
 use Rattle.std.specs.List.{list_all}
 use Rattle.std.proofs.lemmas.List.Sums.{sum_by-cons}
-use Rattle.rv_decode.specs.Fields.{opcode_of, rd_of, funct3_of, rs1_of, rs2_of, funct7_of, funct5_of, funct12_of}
+use Rattle.rv_decode.specs.Fields.{rd_of, funct3_of, rs1_of, rs2_of, funct7_of, funct5_of, funct12_of}
 use Rattle.rv_decode.specs.Listing.{Field, Rd, Funct3, Rs1, Rs2, Funct7, Funct5, Funct12, field_of, Fixed, meets_field, Row, meets, rows}
 
 -- a number for each field, and the field of a number

@@ -1,9 +1,9 @@
 -- A word from its fields, and its fields from the word; the bits of an immediate.
-use Rattle.std.proofs.Common.{◌≡◌, ℕ, ◌+◌, ◌-◌, ◌*◌, ◌/◌, ◌%◌, ◌^◌, ◌<◌, ℤ, pos, arith, sym, ◌∙◌, refl}
+use Rattle.std.proofs.Common.{◌≡◌, ℕ, ◌/◌, ◌%◌, ◌^◌, ◌<◌, ℤ, arith}
 use Rattle.std.proofs.lemmas.Int.{ints}
-use Rattle.rv_decode.specs.Fields.{opcode_of, rd_of, funct3_of, rs1_of, rs2_of, funct7_of, funct12_of, signed, immediate_i, immediate_s, immediate_b, immediate_u, immediate_j}
-use Rattle.rv_decode.specs.Valid.{IsSigned, IsMultiple}
-use Rattle.rv_decode.specs.Words.{joined, joined_i, joined_u, bits_of, places_i, places_u, places_j, low_s, high_s, low_b, high_b}
+use Rattle.rv_decode.specs.Fields.{opcode_of, rd_of, funct3_of, rs1_of, rs2_of, funct7_of, funct12_of, signed}
+use Rattle.rv_decode.specs.Valid.{IsSigned}
+use Rattle.rv_decode.specs.Words.{joined, joined_i, joined_u, bits_of}
 
 -- a word is its fields in their places
 pub split : (word : ℕ) → joined (opcode_of word) (rd_of word) (funct3_of word) (rs1_of word) (rs2_of word) (funct7_of word) ≡ word
@@ -26,13 +26,13 @@ pub record Fields (word opcode rd funct3 rs1 rs2 funct7 : ℕ) : Type 0 where
 
 pub fields_of_joined : (opcode rd funct3 rs1 rs2 funct7 : ℕ) → opcode < 2 ^ 7 → rd < 2 ^ 5 → funct3 < 2 ^ 3 → rs1 < 2 ^ 5 → rs2 < 2 ^ 5 → Fields (joined opcode rd funct3 rs1 rs2 funct7) opcode rd funct3 rs1 rs2 funct7
 fields_of_joined opcode rd funct3 rs1 rs2 funct7 a b c d e = record {
-    opcode_is = omega arith;
-    rd_is = omega arith;
-    funct3_is = omega arith;
-    rs1_is = omega arith;
-    rs2_is = omega arith;
-    funct7_is = omega arith
-  }
+  opcode_is = omega arith;
+  rd_is = omega arith;
+  funct3_is = omega arith;
+  rs1_is = omega arith;
+  rs2_is = omega arith;
+  funct7_is = omega arith;
+}
 
 pub record FieldsI (word opcode rd funct3 rs1 funct12 : ℕ) : Type 0 where
   pub opcode_is : opcode_of word ≡ opcode
@@ -43,12 +43,12 @@ pub record FieldsI (word opcode rd funct3 rs1 funct12 : ℕ) : Type 0 where
 
 pub fields_of_joined_i : (opcode rd funct3 rs1 funct12 : ℕ) → opcode < 2 ^ 7 → rd < 2 ^ 5 → funct3 < 2 ^ 3 → rs1 < 2 ^ 5 → FieldsI (joined_i opcode rd funct3 rs1 funct12) opcode rd funct3 rs1 funct12
 fields_of_joined_i opcode rd funct3 rs1 funct12 a b c d = record {
-    opcode_is = omega arith;
-    rd_is = omega arith;
-    funct3_is = omega arith;
-    rs1_is = omega arith;
-    funct12_is = omega arith
-  }
+  opcode_is = omega arith;
+  rd_is = omega arith;
+  funct3_is = omega arith;
+  rs1_is = omega arith;
+  funct12_is = omega arith;
+}
 
 pub record FieldsU (word opcode rd upper : ℕ) : Type 0 where
   pub opcode_is : opcode_of word ≡ opcode
@@ -57,10 +57,10 @@ pub record FieldsU (word opcode rd upper : ℕ) : Type 0 where
 
 pub fields_of_joined_u : (opcode rd upper : ℕ) → opcode < 2 ^ 7 → rd < 2 ^ 5 → FieldsU (joined_u opcode rd upper) opcode rd upper
 fields_of_joined_u opcode rd upper a b = record {
-    opcode_is = omega arith;
-    rd_is = omega arith;
-    upper_is = omega arith
-  }
+  opcode_is = omega arith;
+  rd_is = omega arith;
+  upper_is = omega arith;
+}
 
 -- the bits of a number that was sign extended
 pub bits_signed_12 : (n : ℕ) → n < 2 ^ 12 → bits_of (signed 12 n) % 2 ^ 12 ≡ n

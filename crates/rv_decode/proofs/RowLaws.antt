@@ -1,6 +1,6 @@
 -- Each row of the listing reads what its words spell.
-use Rattle.std.proofs.Common.{◌≡◌, ℕ, ◌+◌, ◌*◌, ◌/◌, ◌^◌, ◌<◌, ℤ, ◌≤ℤ◌, ◌<ℤ◌, true, List, [], ◌∷◌, ◌++◌, pos, refl, arith}
-use Rattle.std.specs.Prelude.{IfSome}
+use Rattle.std.proofs.Common.{◌≡◌, ℕ, ◌+◌, ◌*◌, ◌/◌, ◌^◌, ◌<◌, ◌≤ℤ◌, ◌<ℤ◌, true, List, [], ◌∷◌, ◌++◌, pos, refl, subst, arith}
+use Rattle.std.specs.Prelude.{Option, None, Some, IfSome}
 use Rattle.std.proofs.lemmas.Int.{ints}
 use Rattle.rv_decode.specs.declared.instruction.Instr.{Instr}
 use Rattle.rv_decode.specs.declared.instruction.Instr.TheVariants.{Ecall, Ebreak, Mret, Wfi}
@@ -20,8 +20,8 @@ use Rattle.rv_decode.specs.declared.operations.AtomicOp.{AtomicOp}
 use Rattle.rv_decode.specs.declared.operations.AtomicOp.TheVariants as amo
 use Rattle.rv_decode.specs.declared.operations.CsrOp.{CsrOp}
 use Rattle.rv_decode.specs.declared.operations.CsrOp.TheVariants.{Csrrw, Csrrs, Csrrc, Csrrwi, Csrrsi, Csrrci}
-use Rattle.rv_decode.specs.Fields.{opcode_of, rs2_of, funct3_of, funct7_of, immediate_i}
-use Rattle.rv_decode.specs.Listing.{Row, row, row3, row37, row_atomic, row_bare, is, Funct3, Funct5, Rs2, meets, read_by, rows, instruction, lui, auipc, jal, jalr, branch, load, store, immediate, shift, register, fence, atomic, csr, uppers, jals, jalrs, branches, loads, stores, immediates, registers, fences, atomics, csrs, bares}
+use Rattle.rv_decode.specs.Fields.{rs2_of, immediate_i}
+use Rattle.rv_decode.specs.Listing.{Row, row, row3, row37, row_atomic, row_bare, is, Funct3, Funct5, Rs2, meets, read_by, rows, instruction, branch, load, store, immediate, shift, register, fence, atomic, csr, uppers, jals, jalrs, branches, loads, stores, immediates, registers, fences, atomics, csrs, bares}
 use Rattle.rv_decode.specs.Valid.{IsOperand, IsSecond, IsValid}
 use Rattle.rv_decode.specs.Words.{branch_code, load_code, store_code, immediate_code, register_code, register_code7, fence_code, atomic_code, csr_code, immediate_extra, encoded}
 use Rattle.rv_decode.proofs.ReadingLaws.{Reading, signed_12, reads_lui, reads_auipc, reads_jal, reads_jalr, reads_branch, reads_load, reads_store, reads_immediate, reads_shift, reads_register, reads_fence, reads_atomic, reads_csr}
@@ -145,3 +145,23 @@ good_rows word fits =
 pub instruction-reads : (word : ℕ) → word < 2 ^ 32 → IfSome (instruction word) (Reading word)
 unfolding instruction
 instruction-reads word fits = Good-read word rows (good_rows word fits)
+
+pub spelled-valid : (word : ℕ) (i : Instr) → word < 2 ^ 32 → instruction word ≡ Some i → IsValid i
+spelled-valid word i fits e = (subst (λ o. IfSome o (Reading word)) e (instruction-reads word fits)).valid
+
+pub spelled-back : (word : ℕ) (i : Instr) → word < 2 ^ 32 → instruction word ≡ Some i → encoded i ≡ word
+spelled-back word i fits e = (subst (λ o. IfSome o (Reading word)) e (instruction-reads word fits)).back
+
+each_valid : (word : ℕ) (o : Option Instr) → IfSome o (Reading word) → IfSome o IsValid
+each_valid word None r = tt
+each_valid word (Some i) r = r.valid
+
+each_back : (word : ℕ) (o : Option Instr) → IfSome o (Reading word) → IfSome o (λ i. encoded i ≡ word)
+each_back word None r = tt
+each_back word (Some i) r = r.back
+
+pub valid_reading : (word : ℕ) → word < 2 ^ 32 → IfSome (instruction word) IsValid
+valid_reading word fits = each_valid word (instruction word) (instruction-reads word fits)
+
+pub back_reading : (word : ℕ) → word < 2 ^ 32 → IfSome (instruction word) (λ i. encoded i ≡ word)
+back_reading word fits = each_back word (instruction word) (instruction-reads word fits)

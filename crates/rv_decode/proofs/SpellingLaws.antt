@@ -1,6 +1,6 @@
 -- A valid instruction is what its word spells.
-use Rattle.std.proofs.Common.{◌≡◌, ℕ, ◌+◌, ◌*◌, ◌/◌, ◌%◌, ◌^◌, ◌<◌, ℤ, pos, ◌≤ℤ◌, ◌<ℤ◌, true, List, [], ◌∷◌, ◌++◌, refl, sym, ap, subst, ◌∙◌, arith}
-use Rattle.std.specs.Prelude.{Option, Some}
+use Rattle.std.proofs.Common.{◌≡◌, ℕ, ◌+◌, ◌*◌, ◌/◌, ◌%◌, ◌^◌, ◌<◌, ℤ, pos, ◌≤ℤ◌, ◌<ℤ◌, refl, sym, ap, subst, ◌∙◌, arith}
+use Rattle.std.specs.Prelude.{Some}
 use Rattle.std.proofs.lemmas.Int.{ints}
 use Rattle.rv_decode.specs.declared.instruction.Instr.{Instr}
 use Rattle.rv_decode.specs.declared.instruction.Instr.TheVariants.{Lui, Auipc, Jal, Jalr, Branch, Load, Store, OpImm, Op, Fence, Atomic, Csr, Ecall, Ebreak, Mret, Wfi}
@@ -20,10 +20,10 @@ use Rattle.rv_decode.specs.declared.operations.AtomicOp.{AtomicOp}
 use Rattle.rv_decode.specs.declared.operations.AtomicOp.TheVariants as amo
 use Rattle.rv_decode.specs.declared.operations.CsrOp.{CsrOp}
 use Rattle.rv_decode.specs.declared.operations.CsrOp.TheVariants.{Csrrw, Csrrs, Csrrc, Csrrwi, Csrrsi, Csrrci}
-use Rattle.rv_decode.specs.Fields.{opcode_of, rd_of, funct3_of, rs1_of, rs2_of, funct7_of, funct5_of, order_of, funct12_of, signed, immediate_i, immediate_s, immediate_b, immediate_u, immediate_j}
-use Rattle.rv_decode.specs.Listing.{read_by, rows, instruction, lui, auipc, jal, jalr, branch, load, store, immediate, shift, register, fence, atomic, csr}
-use Rattle.rv_decode.specs.Valid.{IsSigned, IsMultiple, IsOperand, IsSecond, IsValid}
-use Rattle.rv_decode.specs.Words.{branch_code, load_code, store_code, immediate_code, register_code, register_code7, fence_code, atomic_code, csr_code, joined, joined_i, joined_u, bits_of, places_i, places_u, places_j, low_s, high_s, low_b, high_b, immediate_extra, encoded}
+use Rattle.rv_decode.specs.Fields.{opcode_of, rd_of, funct3_of, rs2_of, funct7_of, funct5_of, order_of, funct12_of, signed}
+use Rattle.rv_decode.specs.Listing.{rows, instruction, lui, auipc, jal, jalr, branch, load, store, immediate, shift, register, fence, atomic, csr}
+use Rattle.rv_decode.specs.Valid.{IsSigned, IsMultiple, IsSecond, IsValid}
+use Rattle.rv_decode.specs.Words.{branch_code, load_code, store_code, immediate_code, register_code, register_code7, fence_code, atomic_code, csr_code, bits_of, places_i, places_u, places_j, low_s, high_s, low_b, high_b, immediate_extra, encoded}
 use Rattle.rv_decode.proofs.FieldLaws.{fields_of_joined, fields_of_joined_i, fields_of_joined_u, signed_bits_12, signed_bits_13, signed_bits_21, signed_bits_32}
 use Rattle.rv_decode.proofs.ListingLaws.{lui_words, auipc_words, jal_words, jalr_words, branch_words, load_words, store_words, immediate_words, register_words, fence_words, atomic_words, system_words}
 
@@ -399,3 +399,5 @@ instruction-encoded Ecall v = spells_ecall
 instruction-encoded Ebreak v = spells_ebreak
 instruction-encoded Mret v = spells_mret
 instruction-encoded Wfi v = spells_wfi
+
+pub ruleset spelling = instruction-encoded

@@ -1,6 +1,8 @@
-ghost use Rattle.std.specs.Prelude.{◌≡◌, ℕ, ◌%◌, ◌^◌, ◌++◌, ◌≤◌, count_by};
+ghost use Rattle.std.specs.Prelude.{◌≡◌, ℕ, ◌%◌, ◌^◌, ◌++◌, ◌≤◌, count_by, IfSome};
 ghost use Rattle.rv_decode.specs.Fields.{opcode_of};
 ghost use Rattle.rv_decode.specs.Listing.{meets, rows, instruction};
+ghost use Rattle.rv_decode.specs.Valid.{IsValid};
+ghost use Rattle.rv_decode.specs.Words.{encoded};
 
 use crate::fields::{imm_j, imm_u, rd};
 use crate::groups::{atomic, branch, fence, immediate, jalr, load, register, store, system};
@@ -11,6 +13,8 @@ use crate::instruction::Instr;
 pub fn decode(word: u32) -> Option<Instr>
     ensures read { result ≡ instruction word }
     ensures once { count_by (λ row. meets row word) rows ≤ 1 }
+    ensures valid { IfSome result IsValid }
+    ensures back { IfSome result (λ i. encoded i ≡ word) }
 {
     by_opcode(word)
 }

@@ -1,4 +1,5 @@
 ghost use Rattle.std.specs.Prelude.{◌≡◌};
+ghost use Rattle.rv_decode.specs.Listing.{instruction};
 ghost use Rattle.rv_decode.specs.Valid.{IsValid};
 ghost use Rattle.rv_decode.specs.Words.{encoded};
 
@@ -9,7 +10,16 @@ use crate::places::{
 };
 
 /// The word that spells an instruction. (Unprivileged manual, 2.2, 2.3 and chapter 24.)
+#[tactic(auto, using(crate::proofs::SpellingLaws::spelling))]
 pub fn encode(i: Instr) -> u32
+    requires { IsValid i }
+    ensures word { result ≡ encoded i }
+    ensures read { instruction result ≡ Some i }
+{
+    word_of(i)
+}
+
+fn word_of(i: Instr) -> u32
     requires { IsValid i }
     ensures { result ≡ encoded i }
 {
