@@ -10,6 +10,8 @@ mod instruction;
 mod links;
 mod operations;
 mod places;
+#[cfg(test)]
+mod tests;
 mod validity;
 
 pub use decoder::decode;
