@@ -1,5 +1,5 @@
 -- What the calls of files read and change.
-use Rattle.std.specs.Prelude.{◌≡◌, ◌≢◌, ◌⊎◌, ℕ, ◌+◌, ◌-◌, ◌<◌, ◌≤◌, List, [], ◌++◌, length, take, drop, Option, Some, None, Result, Ok, Err, unwrap_or}
+use Rattle.std.specs.Prelude.{◌≡◌, ◌≢◌, ◌⊎◌, ℕ, ◌-◌, ◌<◌, ◌≤◌, List, [], ◌++◌, length, take, drop, Option, Some, None, Result, Ok, Err, unwrap_or}
 use Rattle.list_laws.specs.Prefix.{IsPrefix}
 use Rattle.after_edge.specs.declared.files.ReadFault.{ReadFault}
 use Rattle.after_edge.specs.declared.files.ReadFault.TheVariants.{Absent, Failed}
@@ -12,6 +12,10 @@ Contents = List ℕ → Option (List ℕ)
 -- where the files tell their content, it has this
 abbrev pub IfTold : Option Contents → (Contents → Type 0) → Type 0
 IfTold content P = (files : Contents) → content ≡ Some files → P files
+
+-- the content of files that do not tell it
+abbrev pub untold : Option Contents
+untold = None
 
 -- the files tell their content, and have none of this name
 pub record IsAbsent (content : Option Contents) (name : List ℕ) : Type 0 where

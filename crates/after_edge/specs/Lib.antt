@@ -1,3 +1,6 @@
 pub mod Fault
 pub mod Files
+pub mod MemoryFiles
+pub mod MemorySink
+pub mod Reading
 pub mod Sink

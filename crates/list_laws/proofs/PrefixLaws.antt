@@ -1,5 +1,6 @@
 -- Fronts of lists, joined and compared.
-use Rattle.std.proofs.Common.{List, [], ◌++◌, refl, sym, ◌∙◌, ap, append_assoc, append-nil}
+use Rattle.std.proofs.Common.{List, [], ◌++◌, map, refl, sym, ◌∙◌, ap, append_assoc, append-nil}
+use Rattle.std.proofs.lemmas.List.{map-append}
 use Rattle.list_laws.specs.Prefix.{IsPrefix}
 
 -- a list is a front of itself
@@ -25,3 +26,7 @@ IsPrefix-more {front = front} more p = record { rest = p.rest ++ more; joined = 
 -- a front of a front is a front
 pub IsPrefix-trans : {X : Type 0} {a b c : List X} → IsPrefix a b → IsPrefix b c → IsPrefix a c
 IsPrefix-trans {a = a} p q = record { rest = p.rest ++ q.rest; joined = sym (append_assoc a p.rest q.rest) ∙ ap (λ l. l ++ q.rest) p.joined ∙ q.joined }
+
+-- the images of a front are a front of the images
+pub IsPrefix-map : {X Y : Type 0} (f : X → Y) {front whole : List X} → IsPrefix front whole → IsPrefix (map f front) (map f whole)
+IsPrefix-map f {front = front} p = record { rest = map f p.rest; joined = sym (map-append f front p.rest) ∙ ap (map f) p.joined }

@@ -1,0 +1,3 @@
+pub mod Inputs
+pub mod Passing
+pub mod Words

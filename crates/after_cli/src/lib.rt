@@ -1,0 +1,8 @@
+//! The top call: from the words of the command line to the report and the status.
+#![tactic(auto)]
+
+mod command_words;
+mod guard_run;
+mod inputs;
+mod rv_devices;
+mod rv_machine;

@@ -1,0 +1,107 @@
+ghost use Rattle.std.specs.Prelude.{◌≡◌, ◌≤◌, ◌<◌, ◌+◌, ◌-◌, List, ℕ, [], ◌++◌, length, take, drop, min, max, not, vec_len, vec_capacity, if◌then◌else◌, Some, None, option_copied, IfOk, OnOk, OnErr};
+ghost use Rattle.std.specs.Str.{bytes_eq};
+ghost use Rattle.std.specs.String.{string_bytes};
+ghost use Rattle.after_edge.specs.MemoryFiles.{Kept, with_no_file, with_room, begun, appended, passes_room, filled};
+
+use crate::reserved::append_reserved;
+use memory_map::NoMemory;
+use std::alloc::Global;
+use std::marker::Model;
+
+// A name that has room, and its file if there is one.
+#[derive(Drop)]
+pub(crate) struct Entry {
+    name: String,
+    present: bool,
+    bytes: Vec<u8>,
+    room: usize,
+}
+
+impl Model for Entry {
+    ghost Value = { Kept };
+
+    ghost view = { λ e. record { name = string_bytes e.name; file = (if e.present then Some e.bytes.items else None); room = e.room } };
+
+    ghost invariant = { λ e. (vec_len e.bytes ≤ e.room) × (e.room ≤ vec_capacity e.bytes) };
+}
+
+impl Entry {
+    // A name with this room and no file.
+    pub(crate) fn new(alloc: Global, name: &str, room: usize) -> Result<Entry, NoMemory>
+        ensures { IfOk result (λ entry. entry ≡ with_no_file name.now room) }
+    {
+        Ok(Entry {
+            name: String::from_str(alloc, name)?,
+            present: false,
+            bytes: Vec::with_capacity(alloc, room)?,
+            room,
+        })
+    }
+
+    pub(crate) fn is_named(&self, name: &str) -> bool
+        ensures { result ≡ bytes_eq self.now.name name.now }
+    {
+        self.name.as_str() == name
+    }
+
+    pub(crate) fn file(&self) -> Option<&[u8]>
+        ensures { option_copied result ≡ self.now.file }
+    {
+        if self.present {
+            Some(&self.bytes)
+        } else {
+            None
+        }
+    }
+
+    // Room for this many bytes at least.
+    pub(crate) fn reserve(&mut self, room: usize) -> Result<(), NoMemory>
+        ensures ok { OnOk result (self.new ≡ with_room room self.old) }
+        ensures err { OnErr result (self.new ≡ self.old) }
+    {
+        if room <= self.room {
+            return Ok(());
+        }
+        match self.bytes.reserve(room - self.bytes.len()) {
+            Ok(()) => {}
+            Err(failed) => return Err(failed),
+        }
+        self.room = room;
+        Ok(())
+    }
+
+    // An empty file.
+    pub(crate) fn begin(&mut self)
+        ensures { self.new ≡ begun self.old }
+    {
+        self.bytes.clear();
+        self.present = true;
+    }
+
+    // Adds the part of the piece that fits, and answers whether that is all of it.
+    pub(crate) fn append(&mut self, piece: &[u8]) -> bool
+        ensures after { self.new ≡ appended piece.now self.old }
+        ensures whole { result ≡ not (passes_room piece.now self.old) }
+    {
+        if !self.present {
+            self.begin();
+        }
+        let room = self.room - self.bytes.len();
+        append_reserved(&mut self.bytes, &piece[..room.min(piece.len())]);
+        piece.len() <= room
+    }
+
+    // A file with these bytes.
+    pub(crate) fn fill(&mut self, bytes: &[u8]) -> Result<(), NoMemory>
+        ensures ok { OnOk result (self.new ≡ filled bytes.now self.old) }
+        ensures err { OnErr result (self.new ≡ self.old) }
+    {
+        match self.reserve(bytes.len()) {
+            Ok(()) => {}
+            Err(failed) => return Err(failed),
+        }
+        self.begin();
+        append_reserved(&mut self.bytes, bytes);
+        Ok(())
+    }
+}

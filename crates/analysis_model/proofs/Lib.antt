@@ -1,0 +1,4 @@
+mod Examples
+pub mod MadeLaws
+pub mod FirstLaws
+pub mod ReleaseLaws

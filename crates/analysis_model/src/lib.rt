@@ -1,0 +1,2 @@
+//! The definitions of the analyses: findings, stop, released output, report, and a job's text and status.
+#![tactic(auto)]

@@ -1,0 +1,17 @@
+//! The chosen analyses of a run, and the report: its head, and the part of each analysis.
+#![tactic(auto)]
+
+mod analysis;
+mod head;
+mod line;
+mod lines;
+mod part;
+mod put;
+mod shared;
+
+pub use analysis::AnyAnalysis;
+pub use head::{RunFacts, report_head};
+pub use part::report_part;
+
+#[cfg(test)]
+mod tests;

@@ -1,0 +1,96 @@
+-- The ranges of marked words ascend, lie apart, and have exactly the executed bytes.
+use Rattle.std.proofs.Common.{◌≡◌, ℕ, ◌+◌, ◌<◌, ◌≤◌, Bool, true, false, ◌&&◌, ◌||◌, nat_le, nat_lt, List, [], ◌∷◌, refl, sym, ap, ◌∙◌, arith, inl, inr}
+use Rattle.std.proofs.Math.Bool.{or_assoc}
+use Rattle.std.specs.List.{filter_map, list_any}
+use Rattle.std.proofs.lemmas.Bool.{cases_lt, cases_order}
+use Rattle.std.proofs.lemmas.Bool.Decides.{nat_tests}
+use Rattle.memory_map.specs.declared.TheConstants.{RAM_START}
+use Rattle.run_events.specs.declared.event.Event.{Event}
+use Rattle.analysis_model.specs.Ascending.{with_member, ascending}
+use Rattle.analysis_model.specs.Cover.{Span, executed_pc, joined, runs, is_within}
+use Rattle.coverage_map.specs.Coverage.{Covered, Stands, marked_from, marked, summary_now}
+use Rattle.coverage_map.proofs.AscendingLaws.{with_member-same, with_member-before, with_member-behind}
+use Rattle.coverage_map.specs.Executed.{is_byte_of, AscendFrom, AreExecuted}
+
+-- words of four bytes in ascending order, from this address on
+abbrev WordsFrom : ℕ → List ℕ → Type 0
+WordsFrom address [] = Unit {0}
+WordsFrom address (pc ∷ pcs) = (address ≤ pc) × WordsFrom (pc + 4) pcs
+
+WordsFrom-less : (less address : ℕ) (pcs : List ℕ) → less ≤ address → WordsFrom address pcs → WordsFrom less pcs
+WordsFrom-less less address [] h w = tt
+WordsFrom-less less address (pc ∷ pcs) h w = (omega arith, w.1)
+
+WordsFrom-marked : (address : ℕ) (marks : List Bool) → WordsFrom address (marked_from address marks)
+WordsFrom-marked address [] = tt
+WordsFrom-marked address (true ∷ marks) = (omega arith, WordsFrom-marked (address + 4) marks)
+WordsFrom-marked address (false ∷ marks) = WordsFrom-less address (address + 4) (marked_from (address + 4) marks) (omega arith) (WordsFrom-marked (address + 4) marks)
+
+-- a word before ranges either touches the first of them or lies apart
+joined-touches : (pc : ℕ) (span : Span) (spans : List Span) → pc + 4 ≡ span.from → joined pc (span ∷ spans) ≡ record { from = pc; to = span.to } ∷ spans
+joined-touches pc span spans e = grind (arith, nat_tests)
+
+joined-apart : (pc : ℕ) (span : Span) (spans : List Span) → pc + 4 < span.from → joined pc (span ∷ spans) ≡ record { from = pc; to = pc + 4 } ∷ span ∷ spans
+joined-apart pc span spans h = grind (arith, nat_tests)
+
+AscendFrom-joined : (address pc : ℕ) (spans : List Span) → address ≤ pc → AscendFrom (pc + 4) spans → AscendFrom address (joined pc spans)
+AscendFrom-joined address pc [] h a = (h, omega arith, tt)
+AscendFrom-joined address pc (span ∷ spans) h a =
+    elim (cases_lt (pc + 4) span.from) [
+      | inl apart ↦ rw (joined-apart pc span spans apart) (h, omega arith, (omega arith, a.1, a.2))
+      | inr close ↦ let touches : pc + 4 ≡ span.from = omega arith in rw (joined-touches pc span spans touches) (h, omega arith, a.2)
+    ]
+
+AscendFrom-runs : (address : ℕ) (pcs : List ℕ) → WordsFrom address pcs → AscendFrom address (runs pcs)
+AscendFrom-runs address [] w = tt
+AscendFrom-runs address (pc ∷ pcs) w = AscendFrom-joined address pc (runs pcs) w.0 (AscendFrom-runs (pc + 4) pcs w.1)
+
+bytes_joined : (b pc : ℕ) (span : Span) → pc + 4 ≡ span.from → span.from < span.to → (nat_le pc b && nat_lt b span.to) ≡ (is_byte_of b pc || (nat_le span.from b && nat_lt b span.to))
+bytes_joined b pc span e h = grind (arith, nat_tests)
+
+or_same : (a c : Bool) → (a || c) ≡ (a || (a || c))
+or_same true c = refl
+or_same false c = refl
+
+or_swap : (a b c : Bool) → (a || (b || c)) ≡ (b || (a || c))
+or_swap true true c = refl
+or_swap true false c = refl
+or_swap false b c = refl
+
+-- a word adds its bytes
+is_within-joined : (b pc : ℕ) (spans : List Span) → AscendFrom (pc + 4) spans → is_within (joined pc spans) b ≡ (is_byte_of b pc || is_within spans b)
+is_within-joined b pc [] a = refl
+is_within-joined b pc (span ∷ spans) a =
+    elim (cases_lt (pc + 4) span.from) [
+      | inl apart ↦ ap (λ l. is_within l b) (joined-apart pc span spans apart)
+      | inr close ↦
+          let touches : pc + 4 ≡ span.from = omega arith in
+          ap (λ l. is_within l b) (joined-touches pc span spans touches) ∙ ap (λ t. t || is_within spans b) (bytes_joined b pc span touches a.1) ∙ or_assoc (is_byte_of b pc) _ (is_within spans b)
+    ]
+
+is_within-runs : (b address : ℕ) (pcs : List ℕ) → WordsFrom address pcs → is_within (runs pcs) b ≡ list_any (is_byte_of b) pcs
+is_within-runs b address [] w = refl
+is_within-runs b address (pc ∷ pcs) w =
+    is_within-joined b pc (runs pcs) (AscendFrom-runs (pc + 4) pcs w.1) ∙ ap (λ rest. is_byte_of b pc || rest) (is_within-runs b (pc + 4) pcs w.1)
+
+-- a set has the members of its list
+list_any-with_member : (p : ℕ → Bool) (new : ℕ) (xs : List ℕ) → list_any p (with_member new xs) ≡ (p new || list_any p xs)
+list_any-with_member p new [] = refl
+list_any-with_member p new (x ∷ xs) =
+    elim (cases_order new x) [
+      | inl same ↦ ap (list_any p) (with_member-same new x xs same) ∙ or_same (p x) (list_any p xs) ∙ ap (λ y. p y || (p x || list_any p xs)) (sym same)
+      | inr (inl before) ↦ ap (list_any p) (with_member-before new x xs before)
+      | inr (inr behind) ↦ ap (list_any p) (with_member-behind new x xs behind) ∙ ap (λ rest. p x || rest) (list_any-with_member p new xs) ∙ or_swap (p x) (p new) (list_any p xs)
+    ]
+
+list_any-ascending : (p : ℕ → Bool) (xs : List ℕ) → list_any p (ascending xs) ≡ list_any p xs
+list_any-ascending p [] = refl
+list_any-ascending p (x ∷ xs) = list_any-with_member p x (ascending xs) ∙ ap (λ rest. p x || rest) (list_any-ascending p xs)
+
+pub Stands-AreExecuted : (c : Covered) (h : List Event) → Stands c h → AreExecuted (summary_now c).ranges h
+Stands-AreExecuted c h stands =
+    let words = WordsFrom-less 0 RAM_START (marked c.marks) (omega arith) (WordsFrom-marked RAM_START c.marks) in
+    record {
+      apart = AscendFrom-runs 0 (marked c.marks) words;
+      exact = λ address. is_within-runs address 0 (marked c.marks) words ∙ ap (list_any (is_byte_of address)) stands.executed ∙ list_any-ascending (is_byte_of address) (filter_map executed_pc h);
+    }

@@ -1,0 +1,7 @@
+mod AreaLaws
+mod AscendingLaws
+pub mod ExecutedLaws
+mod MarkLaws
+mod PlaceLaws
+mod RangeLaws
+pub mod StandsLaws

@@ -1,0 +1,77 @@
+-- What coverage keeps, what it stands for, and what it tells.
+use Rattle.std.specs.Prelude.{◌≡◌, ℕ, ◌+◌, ◌-◌, ◌*◌, ◌/◌, Bool, true, ◌&&◌, nat_le, nat_lt, List, [], ◌∷◌, length, slice_set, Option, None, Some, if◌then◌else◌}
+use Rattle.memory_map.specs.declared.TheConstants.{RAM_START}
+use Rattle.run_events.specs.declared.event.Event.{Event}
+use Rattle.run_events.specs.declared.event.Event.TheVariants.{Dma, Irq, Trap, Exec}
+use Rattle.run_events.specs.declared.finding.Finding.{Finding}
+use Rattle.run_events.specs.declared.finding.Kind.TheVariants.{Cover}
+use Rattle.analysis_model.specs.Cover.{executed_pcs, outside_at, runs}
+use Rattle.analysis_model.specs.Findings.{findings}
+use Rattle.analysis_model.specs.Made.{code_made_of}
+use Rattle.analysis_model.specs.Report.{Summary}
+use Rattle.finding_tally.specs.Tallied.{Tallied, Tallies, with_finding}
+use Rattle.coverage_map.specs.declared.area.Area.{Area}
+
+-- what coverage keeps: the RAM size in KiB, the guest's code, a mark a word of RAM, and its findings
+pub record Covered : Type 0 where
+  pub ram_kib : ℕ
+  pub code : List Area
+  pub marks : List Bool
+  pub found : Tallied
+
+-- an address of this range of code
+abbrev pub holds : Area → ℕ → Bool
+holds area pc = nat_le area.address pc && nat_lt pc (area.address + area.size)
+
+-- the address and the size of each range of code
+abbrev pub area_numbers : List Area → List ℕ
+area_numbers [] = []
+area_numbers (area ∷ areas) = area.address ∷ area.size ∷ area_numbers areas
+
+-- what it was made of
+abbrev pub make_now : Covered → List ℕ
+make_now c = 3 ∷ area_numbers c.code
+
+-- the addresses of the marked words, where the first mark is of the word at this address
+abbrev pub marked_from : ℕ → List Bool → List ℕ
+marked_from address [] = []
+marked_from address (mark ∷ marks) = if mark then address ∷ marked_from (address + 4) marks else marked_from (address + 4) marks
+
+abbrev pub marked : List Bool → List ℕ
+marked marks = marked_from RAM_START marks
+
+-- it has seen exactly these events: of the words of RAM those are marked that the events executed, and the findings
+-- are theirs
+pub record Stands (c : Covered) (events : List Event) : Type 0 where
+  pub whole : length c.marks ≡ 256 * c.ram_kib
+  pub executed : marked c.marks ≡ executed_pcs events
+  pub tallied : Tallies c.found (findings Cover (code_made_of (make_now c)) events)
+
+-- what it tells
+abbrev pub summary_now : Covered → Summary
+summary_now c = record {
+  first = c.found.first;
+  count = c.found.count;
+  kept = c.found.kept;
+  pcs = length (marked c.marks);
+  ranges = runs (marked c.marks);
+}
+
+-- with the mark of the word at this address
+abbrev pub with_mark : Covered → ℕ → Covered
+with_mark c pc = record c { marks = slice_set c.marks ((pc - RAM_START) / 4) true }
+
+abbrev pub tallied_with : Tallied → Option Finding → Tallied
+tallied_with t None = t
+tallied_with t (Some finding) = with_finding t finding
+
+-- with the finding of an event at this pc, where it is in no code
+abbrev pub with_outside : Covered → ℕ → ℕ → Covered
+with_outside c step pc = record c { found = tallied_with c.found (outside_at (code_made_of (make_now c)) step pc) }
+
+-- after one event more
+abbrev pub after : Covered → Event → Covered
+after c (Dma step address word mark) = c
+after c (Irq step pc cause next) = c
+after c (Trap step pc word cause value next) = with_outside c step pc
+after c (Exec step pc word next result access told) = with_outside (with_mark c pc) step pc

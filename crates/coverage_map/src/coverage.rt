@@ -1,0 +1,152 @@
+ghost use Rattle.std.specs.Prelude.{◌≡◌, ℕ, ◌*◌, ◌<◌, ◌≤◌, List, [], ◌∷◌, ◌++◌, length, slice_get, IfOk};
+ghost use Rattle.run_events.specs.declared.event.Event.{Event};
+ghost use Rattle.run_events.specs.declared.finding.Kind.TheVariants.{Cover};
+ghost use Rattle.run_events.specs.Event.{Fits, IsWordInRam};
+ghost use Rattle.analysis_model.specs.Made.{make_of, code_made_of};
+ghost use Rattle.analysis_model.specs.Report.{Summary, cover_summary};
+ghost use Rattle.coverage_map.specs.Coverage.{Covered, Stands, make_now, summary_now, with_mark, with_outside, after};
+ghost use Rattle.coverage_map.specs.Executed.{AreExecuted};
+
+use crate::area::{Area, code_of, is_code};
+use crate::ranges::{count_marks, count_ranges, find_range};
+use elf_image::Image;
+use finding_tally::Tally;
+use memory_map::{NoMemory, RAM_START};
+use run_events::{Event, Finding, FindingKind, Watcher};
+use std::alloc::Global;
+use std::marker::Model;
+
+/// Which words of RAM were executed, and what was executed, or raised an exception, outside the guest's code.
+#[derive(Drop)]
+pub struct Coverage {
+    ram_kib: u32,
+    code: Vec<Area>,
+    marks: Vec<bool>,
+    found: Tally,
+}
+
+impl Model for Coverage {
+    ghost Value = { Covered };
+
+    ghost view = { λ c. record { ram_kib = c.ram_kib; code = c.code.items; marks = c.marks.items; found = c.found } };
+
+    ghost invariant = { λ c. (c.ram_kib ≤ 16384) × (length c.marks.items ≡ 256 * c.ram_kib) };
+}
+
+impl Watcher for Coverage {
+    ghost has_seen = { Stands };
+
+    ghost ram_kib = { λ c. c.ram_kib };
+
+    ghost make = { make_now };
+
+    fn see(&mut self, event: &Event) {
+        self.take_in(event);
+    }
+}
+
+impl Coverage {
+    /// Nothing seen yet, of a guest with this image and `ram_kib` KiB of RAM. It is the only call that takes memory.
+    pub fn new(alloc: Global, image: &Image, ram_kib: u32) -> Result<Coverage, NoMemory>
+        requires least { 64 ≤ ram_kib }
+        requires most { ram_kib ≤ 16384 }
+        ensures seen { IfOk result (λ c. Stands c []) }
+        ensures size { IfOk result (λ c. c.ram_kib ≡ ram_kib) }
+        ensures made { IfOk result (λ c. make_now c ≡ make_of Cover image.now) }
+    {
+        let code = code_of(alloc, &image.segments)?;
+        let marks = vec![in alloc; false; 256 * ram_kib as usize]?;
+        Ok(Coverage {
+            ram_kib,
+            code,
+            marks,
+            found: Tally::new(),
+        })
+    }
+
+    /// The step of the first finding.
+    pub fn first(&self) -> Option<u32>
+        ensures now { result ≡ (summary_now self.now).first }
+        ensures seen { (h : List Event) → Stands self.now h → result ≡ (cover_summary (code_made_of (make_now self.now)) h).first }
+    {
+        self.found.first()
+    }
+
+    /// How many findings there are, at most 2^64 - 1.
+    pub fn count(&self) -> u64
+        ensures now { result ≡ (summary_now self.now).count }
+        ensures seen { (h : List Event) → Stands self.now h → result ≡ (cover_summary (code_made_of (make_now self.now)) h).count }
+    {
+        self.found.count()
+    }
+
+    /// The first findings, at most 64, in order.
+    pub fn kept(&self) -> &[Finding]
+        ensures now { result.now ≡ (summary_now self.now).kept }
+        ensures seen { (h : List Event) → Stands self.now h → result.now ≡ (cover_summary (code_made_of (make_now self.now)) h).kept }
+    {
+        self.found.kept()
+    }
+
+    /// How many pc values were executed.
+    pub fn pcs(&self) -> u64
+        ensures now { result ≡ (summary_now self.now).pcs }
+        ensures seen { (h : List Event) → Stands self.now h → result ≡ (cover_summary (code_made_of (make_now self.now)) h).pcs }
+    {
+        count_marks(&self.marks)
+    }
+
+    /// How many ranges of addresses the executed words make up.
+    pub fn ranges(&self) -> u64
+        ensures now { result ≡ length (summary_now self.now).ranges }
+        ensures seen { (h : List Event) → Stands self.now h → result ≡ length (cover_summary (code_made_of (make_now self.now)) h).ranges }
+        // what a reader knows of them: they ascend, lie apart, and have exactly the executed bytes
+        ensures executed { (h : List Event) → Stands self.now h → AreExecuted (summary_now self.now).ranges h }
+    {
+        count_ranges(&self.marks)
+    }
+
+    /// The range with this index, in ascending order: its first address, and the one behind its last.
+    pub fn range(&self, index: u64) -> (u32, u32)
+        requires { index < length (summary_now self.now).ranges }
+        ensures now { slice_get (summary_now self.now).ranges index ≡ Some (record { from = result.0; to = result.1 }) }
+        ensures seen { (h : List Event) → Stands self.now h → slice_get (cover_summary (code_made_of (make_now self.now)) h).ranges index ≡ Some (record { from = result.0; to = result.1 }) }
+    {
+        find_range(&self.marks, index)
+    }
+
+    fn take_in(&mut self, event: &Event)
+        requires { Fits self.old.ram_kib event.now }
+        ensures { self.new ≡ after self.old event.now }
+    {
+        match *event {
+            Event::Exec { step, pc, .. } => {
+                self.mark(pc);
+                self.look_at(step, pc);
+            }
+            Event::Trap { step, pc, .. } => self.look_at(step, pc),
+            Event::Dma { .. } | Event::Irq { .. } => {}
+        }
+    }
+
+    fn mark(&mut self, pc: u32)
+        requires { IsWordInRam self.old.ram_kib pc }
+        ensures { self.new ≡ with_mark self.old pc }
+    {
+        let place = (pc - RAM_START) as usize / 4;
+        self.marks[place] = true;
+    }
+
+    fn look_at(&mut self, step: u32, pc: u32)
+        ensures { self.new ≡ with_outside self.old step pc }
+    {
+        if !is_code(&self.code, pc) {
+            self.found.add(Finding {
+                step,
+                pc,
+                kind: FindingKind::Outside,
+                address: pc,
+            });
+        }
+    }
+}

@@ -1,0 +1,71 @@
+ghost use Rattle.std.specs.Prelude.{◌≡◌, ◌+◌, ◌<◌, ◌≤◌, ◌^◌, ℕ, List, length, IfOk};
+ghost use Rattle.machine_model.specs.Image.{flat_image, ram_with, IsLoadable};
+
+use memory_map::{NoMemory, RAM_START};
+use rv_memory::Ram;
+use std::alloc::Global;
+use std::marker::Model;
+
+/// A range of `size` addresses from `address` on. The file gives `bytes` for its front; the rest is zero.
+#[derive(Drop)]
+pub struct Segment {
+    pub address: u32,
+    pub bytes: Vec<u8>,
+    pub size: u32,
+    pub executable: bool,
+}
+
+impl Model for Segment {
+    ghost use Rattle.machine_model.specs.Image.{Segment as Range};
+
+    ghost Value = { Range };
+
+    ghost view = { λ s. record { address = s.address; bytes = s.bytes.items; size = s.size; executable = s.executable } };
+}
+
+/// What a guest's file gives: where it starts, and what stands in RAM before the first step.
+#[derive(Drop)]
+pub struct Image {
+    pub entry: u32,
+    pub segments: Vec<Segment>,
+}
+
+impl Model for Image {
+    ghost use Rattle.machine_model.specs.Image.{Image as Guest};
+
+    ghost Value = { Guest };
+
+    ghost view = { λ i. record { entry = i.entry; segments = i.segments.items } };
+}
+
+impl Image {
+    /// Puts the segments' bytes into RAM, in order. The image was read for a RAM of this size.
+    pub fn load_into(&self, ram: &mut Ram)
+        requires { IsLoadable (length ram.old) self.now.segments }
+        ensures loaded { ram.new ≡ ram_with self.now.segments ram.old }
+        ensures size { length ram.new ≡ length ram.old }
+    {
+        for segment in &self.segments {
+            ram.fill(segment.address, &segment.bytes);
+        }
+    }
+}
+
+/// The image of a file without a header: one executable segment at the start of RAM, where the guest starts too.
+/// The file has at most as many bytes as the largest RAM.
+pub fn read_flat(alloc: Global, file: Vec<u8>) -> Result<Image, NoMemory>
+    requires { length file.items ≤ 16777216 }
+    ensures { IfOk result (λ image. image ≡ flat_image file.items) }
+{
+    let size = file.len() as u32;
+    let segment = Segment {
+        address: RAM_START,
+        bytes: file,
+        size,
+        executable: true,
+    };
+    Ok(Image {
+        entry: RAM_START,
+        segments: vec![in alloc; segment]?,
+    })
+}

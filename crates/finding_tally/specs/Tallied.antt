@@ -1,0 +1,26 @@
+-- What is kept of a list of findings.
+use Rattle.std.specs.Prelude.{◌≡◌, ℕ, ◌+◌, ◌-◌, ◌^◌, min, List, [], ◌∷◌, ◌++◌, take, Option, Some, unwrap_or}
+use Rattle.run_events.specs.declared.finding.Finding.{Finding}
+use Rattle.analysis_model.specs.Findings.{first_step, tally, kept}
+
+-- the step of the first finding, the number of all, and the first of them
+pub record Tallied : Type 0 where
+  pub first : Option ℕ
+  pub count : ℕ
+  pub kept : List Finding
+
+-- what is kept of these findings
+abbrev pub tallied : List Finding → Tallied
+tallied found = record { first = first_step found; count = tally found; kept = kept found }
+
+-- a tally of exactly these findings, in order
+abbrev pub Tallies : Tallied → List Finding → Type 0
+Tallies t found = t ≡ tallied found
+
+-- a tally after one finding more
+abbrev pub with_finding : Tallied → Finding → Tallied
+with_finding t finding = record {
+  first = Some (unwrap_or t.first finding.step);
+  count = min (t.count + 1) (2 ^ 64 - 1);
+  kept = take 64 (t.kept ++ finding ∷ []);
+}

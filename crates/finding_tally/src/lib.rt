@@ -1,0 +1,9 @@
+//! What an analysis keeps of its findings: the first step, their number, and the first 64.
+#![tactic(auto)]
+
+mod shared;
+mod tally;
+#[cfg(test)]
+mod tests;
+
+pub use tally::Tally;

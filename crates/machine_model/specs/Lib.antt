@@ -1,0 +1,5 @@
+pub mod Image
+pub mod Instruction
+pub mod State
+pub mod Step
+pub mod Run
