@@ -54,6 +54,7 @@ part_j word bits fits e = omega arith
 
 -- each kind of row
 pub reads_lui : (word : ℕ) → word < 2 ^ 32 → opcode_of word ≡ 0x37 → Reading word (lui word)
+unfolding encoded
 reads_lui word fits o =
     let n = word / 2 ^ 12 * 2 ^ 12 in
     let below : n < 2 ^ 32 = omega (arith, fits) in
@@ -63,6 +64,7 @@ reads_lui word fits o =
     }
 
 pub reads_auipc : (word : ℕ) → word < 2 ^ 32 → opcode_of word ≡ 0x17 → Reading word (auipc word)
+unfolding encoded
 reads_auipc word fits o =
     let n = word / 2 ^ 12 * 2 ^ 12 in
     let below : n < 2 ^ 32 = omega (arith, fits) in
@@ -72,6 +74,7 @@ reads_auipc word fits o =
     }
 
 pub reads_jal : (word : ℕ) → word < 2 ^ 32 → opcode_of word ≡ 0x6f → Reading word (jal word)
+unfolding encoded
 reads_jal word fits o =
     let n = word / 2 ^ 31 * 2 ^ 20 + word / 2 ^ 12 % 2 ^ 8 * 2 ^ 12 + word / 2 ^ 20 % 2 * 2 ^ 11 + word / 2 ^ 21 % 2 ^ 10 * 2 in
     let below : n < 2 ^ 21 = omega (arith, fits) in
@@ -81,6 +84,7 @@ reads_jal word fits o =
     }
 
 pub reads_jalr : (word : ℕ) → word < 2 ^ 32 → opcode_of word ≡ 0x67 → funct3_of word ≡ 0 → Reading word (jalr word)
+unfolding encoded
 reads_jalr word fits o f =
     let n = word / 2 ^ 20 in
     let below : n < 2 ^ 12 = omega (arith, fits) in
@@ -90,6 +94,7 @@ reads_jalr word fits o f =
     }
 
 pub reads_branch : (op : BranchOp) (word : ℕ) → word < 2 ^ 32 → opcode_of word ≡ 0x63 → funct3_of word ≡ branch_code op → Reading word (branch op word)
+unfolding encoded
 reads_branch op word fits o f =
     let n = word / 2 ^ 31 * 2 ^ 12 + word / 2 ^ 7 % 2 * 2 ^ 11 + word / 2 ^ 25 % 2 ^ 6 * 2 ^ 5 + word / 2 ^ 8 % 2 ^ 4 * 2 in
     let below : n < 2 ^ 13 = omega (arith, fits) in
@@ -99,6 +104,7 @@ reads_branch op word fits o f =
     }
 
 pub reads_load : (op : LoadOp) (word : ℕ) → word < 2 ^ 32 → opcode_of word ≡ 0x03 → funct3_of word ≡ load_code op → Reading word (load op word)
+unfolding encoded
 reads_load op word fits o f =
     let n = word / 2 ^ 20 in
     let below : n < 2 ^ 12 = omega (arith, fits) in
@@ -108,6 +114,7 @@ reads_load op word fits o f =
     }
 
 pub reads_store : (op : StoreOp) (word : ℕ) → word < 2 ^ 32 → opcode_of word ≡ 0x23 → funct3_of word ≡ store_code op → Reading word (store op word)
+unfolding encoded
 reads_store op word fits o f =
     let n = word / 2 ^ 25 * 2 ^ 5 + word / 2 ^ 7 % 2 ^ 5 in
     let below : n < 2 ^ 12 = omega (arith, fits) in
@@ -117,12 +124,14 @@ reads_store op word fits o f =
     }
 
 pub reads_register : (op : RegOp) (word : ℕ) → word < 2 ^ 32 → opcode_of word ≡ 0x33 → funct3_of word ≡ register_code op → funct7_of word ≡ register_code7 op → Reading word (register op word)
+unfolding encoded
 reads_register op word fits o f g = record {
   valid = (omega arith, omega arith, omega arith);
   back = omega (arith, o, f, g, split word);
 }
 
 pub reads_fence : (op : FenceOp) (word : ℕ) → word < 2 ^ 32 → opcode_of word ≡ 0x0f → funct3_of word ≡ fence_code op → Reading word (fence op word)
+unfolding encoded
 reads_fence op word fits o f =
     let n = word / 2 ^ 20 in
     let below : n < 2 ^ 12 = omega (arith, fits) in
@@ -132,12 +141,14 @@ reads_fence op word fits o f =
     }
 
 pub reads_csr : (op : CsrOp) (word : ℕ) → word < 2 ^ 32 → opcode_of word ≡ 0x73 → funct3_of word ≡ csr_code op → Reading word (csr op word)
+unfolding encoded
 reads_csr op word fits o f = record {
   valid = (omega arith, omega arith, omega (arith, fits));
   back = omega (arith, o, f, split_i word);
 }
 
 pub reads_atomic : (op : AtomicOp) (word : ℕ) → word < 2 ^ 32 → opcode_of word ≡ 0x2f → funct3_of word ≡ 2 → funct5_of word ≡ atomic_code op → IsSecond op (rs2_of word) → Reading word (atomic op word)
+unfolding encoded
 reads_atomic op word fits o f g second = record {
   valid = (omega arith, omega arith, second, omega arith);
   back = omega (arith, o, f, g, split word);
@@ -145,6 +156,7 @@ reads_atomic op word fits o f g second = record {
 
 -- the operations on an immediate but for the shifts
 pub reads_immediate : (op : ImmOp) (word : ℕ) → word < 2 ^ 32 → IsOperand op (immediate_i word) → immediate_extra op ≡ 0 → opcode_of word ≡ 0x13 → funct3_of word ≡ immediate_code op → Reading word (immediate op word)
+unfolding encoded
 reads_immediate op word fits operand extra o f =
     let n = word / 2 ^ 20 in
     let below : n < 2 ^ 12 = omega (arith, fits) in
@@ -154,6 +166,7 @@ reads_immediate op word fits operand extra o f =
     }
 
 pub reads_shift : (op : ImmOp) (word : ℕ) → word < 2 ^ 32 → IsOperand op (pos (rs2_of word)) → opcode_of word ≡ 0x13 → funct3_of word ≡ immediate_code op → funct7_of word * 2 ^ 5 ≡ immediate_extra op → Reading word (shift op word)
+unfolding encoded
 reads_shift op word fits operand o f g = record {
   valid = (omega arith, omega arith, operand);
   back = omega (arith, o, f, g, split_i word);

@@ -122,6 +122,7 @@ bare_word : (funct12 : ℕ) (i : Instr) (word : ℕ) → meets (row_bare funct12
 bare_word funct12 i word m = grind (arith, m)
 
 good_bares : (word : ℕ) → Good word bares
+unfolding encoded
 good_bares word =
     (λ m. record { valid = tt; back = bare_word 0x000 Ecall word m }, (λ m. record { valid = tt; back = bare_word 0x001 Ebreak word m }, (λ m. record { valid = tt; back = bare_word 0x302 Mret word m }, (λ m. record { valid = tt; back = bare_word 0x105 Wfi word m }, tt))))
 

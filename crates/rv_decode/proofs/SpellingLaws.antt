@@ -248,6 +248,7 @@ same4 : {A B C D E : Type 0} (f : A → B → C → D → E) {a a' : A} {b b' : 
 same4 f p q r s = cc
 
 encoded_lui : (rd : ℕ) (imm : ℤ) → IsValid (Lui rd imm) → instruction (encoded (Lui rd imm)) ≡ Some (Lui rd imm)
+unfolding encoded
 encoded_lui rd imm v =
     let bits = bits_of imm in
     let word = encoded (Lui rd imm) in
@@ -256,6 +257,7 @@ encoded_lui rd imm v =
     spells_lui word f.opcode_is ∙ same2 (λ r z. Some (Lui r z)) f.rd_is (ap (signed 32) n ∙ signed_bits_32 imm v.1)
 
 encoded_auipc : (rd : ℕ) (imm : ℤ) → IsValid (Auipc rd imm) → instruction (encoded (Auipc rd imm)) ≡ Some (Auipc rd imm)
+unfolding encoded
 encoded_auipc rd imm v =
     let bits = bits_of imm in
     let word = encoded (Auipc rd imm) in
@@ -274,6 +276,7 @@ wide_21 : (z : ℤ) → IsSigned 21 z → IsSigned 32 z
 wide_21 z fits = (omega (arith, ints, fits.0), omega (arith, ints, fits.1))
 
 encoded_jal : (rd : ℕ) (imm : ℤ) → IsValid (Jal rd imm) → instruction (encoded (Jal rd imm)) ≡ Some (Jal rd imm)
+unfolding encoded
 encoded_jal rd imm v =
     let bits = bits_of imm in
     let word = encoded (Jal rd imm) in
@@ -282,12 +285,14 @@ encoded_jal rd imm v =
     spells_jal word f.opcode_is ∙ same2 (λ r z. Some (Jal r z)) f.rd_is (ap (signed 21) n ∙ signed_bits_21 imm v.1)
 
 encoded_jalr : (rd rs1 : ℕ) (imm : ℤ) → IsValid (Jalr rd rs1 imm) → instruction (encoded (Jalr rd rs1 imm)) ≡ Some (Jalr rd rs1 imm)
+unfolding encoded
 encoded_jalr rd rs1 imm v =
     let word = encoded (Jalr rd rs1 imm) in
     let f = fields_of_joined_i 0x67 rd 0 rs1 (places_i (bits_of imm)) (omega arith) v.0 (omega arith) v.1 in
     spells_jalr word f.opcode_is f.funct3_is ∙ same3 (λ a b z. Some (Jalr a b z)) f.rd_is f.rs1_is (ap (signed 12) f.funct12_is ∙ signed_bits_12 imm v.2)
 
 encoded_branch : (op : BranchOp) (rs1 rs2 : ℕ) (imm : ℤ) → IsValid (Branch op rs1 rs2 imm) → instruction (encoded (Branch op rs1 rs2 imm)) ≡ Some (Branch op rs1 rs2 imm)
+unfolding encoded
 encoded_branch op rs1 rs2 imm v =
     let bits = bits_of imm in
     let word = encoded (Branch op rs1 rs2 imm) in
@@ -296,6 +301,7 @@ encoded_branch op rs1 rs2 imm v =
     spells_branch op word f.opcode_is f.funct3_is ∙ same3 (λ a b z. Some (Branch op a b z)) f.rs1_is f.rs2_is (ap (signed 13) n ∙ signed_bits_13 imm v.2)
 
 encoded_store : (op : StoreOp) (rs1 rs2 : ℕ) (imm : ℤ) → IsValid (Store op rs1 rs2 imm) → instruction (encoded (Store op rs1 rs2 imm)) ≡ Some (Store op rs1 rs2 imm)
+unfolding encoded
 encoded_store op rs1 rs2 imm v =
     let bits = bits_of imm in
     let word = encoded (Store op rs1 rs2 imm) in
@@ -304,18 +310,21 @@ encoded_store op rs1 rs2 imm v =
     spells_store op word f.opcode_is f.funct3_is ∙ same3 (λ a b z. Some (Store op a b z)) f.rs1_is f.rs2_is (ap (signed 12) n ∙ signed_bits_12 imm v.2)
 
 encoded_load : (op : LoadOp) (rd rs1 : ℕ) (imm : ℤ) → IsValid (Load op rd rs1 imm) → instruction (encoded (Load op rd rs1 imm)) ≡ Some (Load op rd rs1 imm)
+unfolding encoded
 encoded_load op rd rs1 imm v =
     let word = encoded (Load op rd rs1 imm) in
     let f = fields_of_joined_i 0x03 rd (load_code op) rs1 (places_i (bits_of imm)) (omega arith) v.0 (load_fits op) v.1 in
     spells_load op word f.opcode_is f.funct3_is ∙ same3 (λ a b z. Some (Load op a b z)) f.rd_is f.rs1_is (ap (signed 12) f.funct12_is ∙ signed_bits_12 imm v.2)
 
 encoded_fence : (op : FenceOp) (rd rs1 : ℕ) (imm : ℤ) → IsValid (Fence op rd rs1 imm) → instruction (encoded (Fence op rd rs1 imm)) ≡ Some (Fence op rd rs1 imm)
+unfolding encoded
 encoded_fence op rd rs1 imm v =
     let word = encoded (Fence op rd rs1 imm) in
     let f = fields_of_joined_i 0x0f rd (fence_code op) rs1 (places_i (bits_of imm)) (omega arith) v.0 (fence_fits op) v.1 in
     spells_fence op word f.opcode_is f.funct3_is ∙ same3 (λ a b z. Some (Fence op a b z)) f.rd_is f.rs1_is (ap (signed 12) f.funct12_is ∙ signed_bits_12 imm v.2)
 
 encoded_plain : (op : ImmOp) (rd rs1 : ℕ) (imm : ℤ) → IsPlain op → immediate_extra op ≡ 0 → rd < 2 ^ 5 → rs1 < 2 ^ 5 → IsSigned 12 imm → instruction (encoded (OpImm op rd rs1 imm)) ≡ Some (OpImm op rd rs1 imm)
+unfolding encoded
 encoded_plain op rd rs1 imm plain extra a b fits =
     let word = encoded (OpImm op rd rs1 imm) in
     let f = fields_of_joined_i 0x13 rd (immediate_code op) rs1 (places_i (bits_of imm) + immediate_extra op) (omega arith) a (immediate_fits op) b in
@@ -330,6 +339,7 @@ small_bits : (z : ℤ) → pos 0 ≤ℤ z → z <ℤ pos (2 ^ 5) → bits_of z <
 small_bits z least most = grind (arith, ints, least, most)
 
 encoded_shift : (op : ImmOp) (rd rs1 : ℕ) (imm : ℤ) → IsShift op → immediate_extra op % 2 ^ 5 ≡ 0 → rd < 2 ^ 5 → rs1 < 2 ^ 5 → pos 0 ≤ℤ imm → imm <ℤ pos (2 ^ 5) → instruction (encoded (OpImm op rd rs1 imm)) ≡ Some (OpImm op rd rs1 imm)
+unfolding encoded
 encoded_shift op rd rs1 imm shifts extra a b least most =
     let bits = bits_of imm in
     let word = encoded (OpImm op rd rs1 imm) in
@@ -340,6 +350,7 @@ encoded_shift op rd rs1 imm shifts extra a b least most =
     spells_shift op word f.opcode_is f.funct3_is g shifts ∙ same3 (λ a b z. Some (OpImm op a b z)) f.rd_is f.rs1_is (shift_bits imm (rs2_of word) least most n)
 
 encoded_immediate : (op : ImmOp) (rd rs1 : ℕ) (imm : ℤ) → IsValid (OpImm op rd rs1 imm) → instruction (encoded (OpImm op rd rs1 imm)) ≡ Some (OpImm op rd rs1 imm)
+unfolding encoded
 encoded_immediate Addi rd rs1 imm v = encoded_plain Addi rd rs1 imm tt refl v.0 v.1 v.2
 encoded_immediate Slti rd rs1 imm v = encoded_plain Slti rd rs1 imm tt refl v.0 v.1 v.2
 encoded_immediate Sltiu rd rs1 imm v = encoded_plain Sltiu rd rs1 imm tt refl v.0 v.1 v.2
@@ -351,6 +362,7 @@ encoded_immediate Srli rd rs1 imm v = encoded_shift Srli rd rs1 imm tt refl v.0 
 encoded_immediate Srai rd rs1 imm v = encoded_shift Srai rd rs1 imm tt refl v.0 v.1 v.2.0 v.2.1
 
 encoded_register : (op : RegOp) (rd rs1 rs2 : ℕ) → IsValid (Op op rd rs1 rs2) → instruction (encoded (Op op rd rs1 rs2)) ≡ Some (Op op rd rs1 rs2)
+unfolding encoded
 encoded_register op rd rs1 rs2 v =
     let f = fields_of_joined 0x33 rd (register_code op) rs1 rs2 (register_code7 op) (omega arith) v.0 (register_fits op) v.1 v.2 in
     spells_register op (encoded (Op op rd rs1 rs2)) f.opcode_is f.funct3_is f.funct7_is ∙ same3 (λ a b c. Some (Op op a b c)) f.rd_is f.rs1_is f.rs2_is
@@ -369,6 +381,7 @@ second_fits amo.Minu rs2 second = omega (arith, second)
 second_fits amo.Maxu rs2 second = omega (arith, second)
 
 encoded_atomic : (op : AtomicOp) (rd rs1 rs2 order : ℕ) → IsValid (Atomic op rd rs1 rs2 order) → instruction (encoded (Atomic op rd rs1 rs2 order)) ≡ Some (Atomic op rd rs1 rs2 order)
+unfolding encoded
 encoded_atomic op rd rs1 rs2 order v =
     let word = encoded (Atomic op rd rs1 rs2 order) in
     let f = fields_of_joined 0x2f rd 2 rs1 rs2 (atomic_code op * 2 ^ 2 + order) (omega arith) v.0 (omega arith) v.1 (second_fits op rs2 v.2) in
@@ -378,11 +391,13 @@ encoded_atomic op rd rs1 rs2 order v =
     spells_atomic op word f.opcode_is f.funct3_is code second ∙ same4 (λ a b c d. Some (Atomic op a b c d)) f.rd_is f.rs1_is f.rs2_is ordered
 
 encoded_csr : (op : CsrOp) (rd source address : ℕ) → IsValid (Csr op rd source address) → instruction (encoded (Csr op rd source address)) ≡ Some (Csr op rd source address)
+unfolding encoded
 encoded_csr op rd source address v =
     let f = fields_of_joined_i 0x73 rd (csr_code op) source address (omega arith) v.0 (csr_fits op) v.1 in
     spells_csr op (encoded (Csr op rd source address)) f.opcode_is f.funct3_is ∙ same3 (λ a b c. Some (Csr op a b c)) f.rd_is f.rs1_is f.funct12_is
 
 pub instruction-encoded : (i : Instr) → IsValid i → instruction (encoded i) ≡ Some i
+unfolding encoded
 instruction-encoded (Lui rd imm) v = encoded_lui rd imm v
 instruction-encoded (Auipc rd imm) v = encoded_auipc rd imm v
 instruction-encoded (Jal rd imm) v = encoded_jal rd imm v

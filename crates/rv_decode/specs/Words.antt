@@ -155,7 +155,7 @@ abbrev pub immediate_extra : ImmOp → ℕ
 immediate_extra Srai = 2 ^ 10
 immediate_extra _ = 0
 
-abbrev pub encoded : Instr → ℕ
+unfoldable pub encoded : Instr → ℕ
 encoded (Lui rd imm) = joined_u 0x37 rd (places_u (bits_of imm))
 encoded (Auipc rd imm) = joined_u 0x17 rd (places_u (bits_of imm))
 encoded (Jal rd imm) = joined_u 0x6f rd (places_j (bits_of imm))

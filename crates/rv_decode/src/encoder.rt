@@ -19,6 +19,7 @@ pub fn encode(i: Instr) -> u32
     word_of(i)
 }
 
+#[tactic(auto, unfolding(crate::specs::Words::encoded))]
 fn word_of(i: Instr) -> u32
     requires { IsValid i }
     ensures { result ≡ encoded i }
