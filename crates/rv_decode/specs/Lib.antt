@@ -1,0 +1,5 @@
+pub mod Fields
+pub mod Listing
+pub mod Links
+pub mod Valid
+pub mod Words

@@ -1,0 +1,72 @@
+ghost use Rattle.std.specs.Prelude.{◌≡◌, ℕ, ◌+◌, ◌*◌, ◌/◌, ◌%◌, ◌^◌, ◌<◌};
+ghost use Rattle.rv_decode.specs.Fields.{rd_of, funct3_of, rs1_of, rs2_of, immediate_i, immediate_s, immediate_b, immediate_u, immediate_j};
+
+pub fn rd(word: u32) -> u32
+    ensures { result ≡ rd_of word }
+{
+    word >> 7 & 31
+}
+
+pub fn funct3(word: u32) -> u32
+    ensures { result ≡ funct3_of word }
+{
+    word >> 12 & 7
+}
+
+pub fn rs1(word: u32) -> u32
+    ensures { result ≡ rs1_of word }
+{
+    word >> 15 & 31
+}
+
+pub fn rs2(word: u32) -> u32
+    ensures { result ≡ rs2_of word }
+{
+    word >> 20 & 31
+}
+
+pub fn imm_i(word: u32) -> i32
+    ensures { result ≡ immediate_i word }
+{
+    word.cast_signed() >> 20
+}
+
+pub fn imm_s(word: u32) -> i32
+    ensures { result ≡ immediate_s word }
+{
+    (word.cast_signed() >> 25) * 32 + rd(word).cast_signed()
+}
+
+// all of a branch's immediate but its sign
+fn low_b(word: u32) -> u32
+    ensures value { result ≡ word / 2 ^ 7 % 2 * 2 ^ 11 + word / 2 ^ 25 % 2 ^ 6 * 2 ^ 5 + word / 2 ^ 8 % 2 ^ 4 * 2 }
+    ensures below { result < 2 ^ 12 }
+{
+    (word >> 7 & 1) * 2048 + (word >> 25 & 63) * 32 + (word >> 8 & 15) * 2
+}
+
+pub fn imm_b(word: u32) -> i32
+    ensures { result ≡ immediate_b word }
+{
+    (word.cast_signed() >> 31) * 4096 + low_b(word).cast_signed()
+}
+
+pub fn imm_u(word: u32) -> i32
+    ensures { result ≡ immediate_u word }
+{
+    (word - word % 4096).cast_signed()
+}
+
+// all of a jump's immediate but its sign
+fn low_j(word: u32) -> u32
+    ensures value { result ≡ word / 2 ^ 12 % 2 ^ 8 * 2 ^ 12 + word / 2 ^ 20 % 2 * 2 ^ 11 + word / 2 ^ 21 % 2 ^ 10 * 2 }
+    ensures below { result < 2 ^ 20 }
+{
+    (word >> 12 & 255) * 4096 + (word >> 20 & 1) * 2048 + (word >> 21 & 1023) * 2
+}
+
+pub fn imm_j(word: u32) -> i32
+    ensures { result ≡ immediate_j word }
+{
+    (word.cast_signed() >> 31) * 1_048_576 + low_j(word).cast_signed()
+}
