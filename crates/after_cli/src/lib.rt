@@ -9,4 +9,4 @@ mod rv_devices;
 mod rv_machine;
 mod top;
 
-pub use top::{Outcome, aftersight_plain};
+pub use top::{Outcome, aftersight_plain, end_with};

@@ -81,9 +81,11 @@ fn answer_words<F: Files, O: Sink>(
     }
 }
 
-// Tells why a call did no run. A failure to tell it changes nothing else.
+/// The end of a call with this status: it writes the status' line, if it has one. A failure to write it changes
+/// nothing else.
 #[tactic(auto, unfolding(crate::specs::Answer::line_of))]
-fn tell<E: Sink>(status: u8, err: &mut E)
+pub fn end_with<E: Sink>(status: u8, err: &mut E) -> Outcome
+    ensures status { result.status ≡ status }
     ensures told { TellsLine E.holds E.faults err.old err.new (line_of status) }
     ensures quiet { IsOfDone status → err.new ≡ err.old }
 {
@@ -92,9 +94,10 @@ fn tell<E: Sink>(status: u8, err: &mut E)
         6 => b"output failed\n",
         9 => b"no memory\n",
         10 => b"not built\n",
-        _ => return,
+        _ => return Outcome { status },
     };
     let _ = err.put(line);
+    Outcome { status }
 }
 
 /// The program on one thread: the words of a command line, and the files and sinks of its outside.
@@ -134,7 +137,5 @@ pub fn aftersight_plain<F: Files, O: Sink, E: Sink>(
     ensures files { F.content files.new ≡ F.content files.old }
 {
     let answer = answer_words(alloc, words, files, out);
-    let status = answer.status();
-    tell(status, err);
-    Outcome { status }
+    end_with(answer.status(), err)
 }

@@ -1,0 +1,34 @@
+//! The program `aftersight`: the words of the command line, the host's files and streams, the top call and its status.
+#![tactic(auto)]
+
+mod command_line;
+
+use after_cli::{Outcome, aftersight_plain, end_with};
+use after_edge::{Failed, Sink, StdFiles, StdSink};
+use command_line::{read_words, text_of_lone};
+use std::process::ExitCode;
+
+// Writes a text that stands for itself.
+fn show<O: Sink, E: Sink>(text: &str, out: &mut O, err: &mut E) -> Outcome {
+    match out.put(text.as_bytes()) {
+        Ok(()) => end_with(0, err),
+        Err(Failed) => end_with(6, err),
+    }
+}
+
+fn main(rt: HostRuntime) -> ExitCode {
+    let mut out = StdSink::new(rt.stdout());
+    let mut err = StdSink::new(rt.stderr());
+    let words = match read_words(&rt) {
+        Ok(words) => words,
+        Err(status) => return ExitCode::from(end_with(status, &mut err).status),
+    };
+    let outcome = match text_of_lone(&words) {
+        Some(text) => show(text, &mut out, &mut err),
+        None => {
+            let mut files = StdFiles::new(&rt);
+            aftersight_plain(rt.alloc(), &words, &mut files, &mut out, &mut err)
+        }
+    };
+    ExitCode::from(outcome.status)
+}
