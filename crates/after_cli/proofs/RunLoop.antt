@@ -127,7 +127,7 @@ pub ends_at_limit : (code : List Span) (kind : Kind) (limit turn : ℕ) (start s
 ends_at_limit code kind limit turn start s seen put issued released items done way =
     let none : way.left ≡ 0 = omega (arith, way.left_is) in
     let goes : run_from limit start ≡ run_so_far way.so_far s.step Limit =
-        way.goes ∙ ap (λ n. after_events way.so_far (run_from n s)) none ∙ ap (after_events way.so_far) (run_from-limit s) ∙ ap (λ l. run_so_far l s.step Limit) (append-nil way.so_far) in
+    way.goes ∙ ap (λ n. after_events way.so_far (run_from n s)) none ∙ ap (after_events way.so_far) (run_from-limit s) ∙ ap (λ l. run_so_far l s.step Limit) (append-nil way.so_far) in
     ended_at code kind (run_from limit start) way.so_far s.step Limit seen put issued released items goes way.counted
 
 more_left : (left turn limit : ℕ) → left + turn ≡ limit → turn < limit → (fewer : ℕ) × (left ≡ suc fewer)
@@ -140,7 +140,7 @@ pub ends_stuck : (code : List Span) (kind : Kind) (limit turn : ℕ) (start s : 
 ends_stuck code kind limit turn start s seen put issued released items lt none way =
     let (fewer, left_is) = more_left way.left turn limit way.left_is lt in
     let goes : run_from limit start ≡ run_so_far way.so_far s.step Stuck =
-        way.goes ∙ ap (λ n. after_events way.so_far (run_from n s)) left_is ∙ ap (after_events way.so_far) (run_from-stuck fewer s none) ∙ ap (λ l. run_so_far l s.step Stuck) (append-nil way.so_far) in
+    way.goes ∙ ap (λ n. after_events way.so_far (run_from n s)) left_is ∙ ap (after_events way.so_far) (run_from-stuck fewer s none) ∙ ap (λ l. run_so_far l s.step Stuck) (append-nil way.so_far) in
     ended_at code kind (run_from limit start) way.so_far s.step Stuck seen put issued released items goes way.counted
 
 -- one step was done, seen, passed on and counted, and the run goes on or has ended behind it
@@ -157,7 +157,7 @@ pub ends_by_power : (code : List Span) (kind : Kind) (limit turn : ℕ) (start s
     → HasStepped code kind limit turn start s next event seen put issued released items → HasEnded code kind (run_from limit start) seen put (facts_counted next.step (Power status) issued released (items + 1))
 ends_by_power code kind limit turn start s next event status seen put issued released items power was =
     let goes : run_from limit start ≡ run_so_far (was.so_far ++ event ∷ []) next.step (Power status) =
-        was.goes ∙ ap (after_events was.so_far) (run_from-power was.fewer s next event status was.stepped power) in
+    was.goes ∙ ap (after_events was.so_far) (run_from-power was.fewer s next event status was.stepped power) in
     ended_at code kind (run_from limit start) (was.so_far ++ event ∷ []) next.step (Power status) seen put issued released items goes was.counted
 
 -- the run goes on
@@ -181,7 +181,7 @@ steps_on code kind limit turn start s next event refused seen seen' put put' iss
     let (fewer, left_is) = more_left way.left turn limit way.left_is lt in
     let step = step_from-IsStep s event next is in
     let counted = counted_more code kind way.so_far event s.step refused seen seen' put put' issued released items issued' released' items' way.counted step.numbered
-        (refused_is (way.so_far ++ event ∷ []) (see_more way.so_far way.counted.seen_it)) (see_more way.so_far) (put_more (let_out code kind way.so_far s.step)) i r k in
+    (refused_is (way.so_far ++ event ∷ []) (see_more way.so_far way.counted.seen_it)) (see_more way.so_far) (put_more (let_out code kind way.so_far s.step)) i r k in
     record {
       so_far = way.so_far;
       fewer = fewer;

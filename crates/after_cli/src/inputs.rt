@@ -41,7 +41,12 @@ fn has_header(file: &[u8]) -> bool
 }
 
 /// Reads the files of a run: the image first, then the script. It answers the bytes of the image.
-pub fn read_inputs<F: Files>(alloc: Global, files: &mut F, image: &str, script: &str) -> Result<Vec<u8>, Refusal>
+pub fn read_inputs<F: Files>(
+    alloc: Global,
+    files: &mut F,
+    image: &str,
+    script: &str,
+) -> Result<Vec<u8>, Refusal>
     ensures ok { IfOk result (λ file. AreInputs (F.content files.old) image.now script.now file.items) }
     ensures cause { IfErr result (HasRefusalCause (F.content files.old) image.now script.now (F.faults files.old) (F.faults files.new)) }
     ensures same { F.content files.new ≡ F.content files.old }

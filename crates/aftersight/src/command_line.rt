@@ -1,8 +1,7 @@
 ghost use Rattle.std.specs.Prelude.{◌≡◌, ◌⊎◌, IfErr, IsSome, length};
 
-use std::env;
-use std::io;
 use std::rt::Env;
+use std::{env, io};
 
 /// The words behind the program's name, or the status where they cannot be read: 9 for want of memory, and 10 for a
 /// word that is no UTF-8 text, since no run that is built has such words.

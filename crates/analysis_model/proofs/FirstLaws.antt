@@ -90,7 +90,7 @@ pub first_refused_goes : (code : List Span) (kind : Kind) (n : ℕ) (events : Li
     → Goes n (first_refused code (run_so_far events n c) kind) (first_refused code (run_so_far (events ++ event ∷ []) (n + 1) d) kind)
 first_refused_goes code kind n events event c d below at =
     let same : unwrap_or (first_step (findings kind code (events ++ event ∷ []))) (n + 1) ≡ unwrap_or (first_step (findings kind code events)) (unwrap_or (first_step (findings kind code (event ∷ []))) (n + 1))
-        = ap (λ l. unwrap_or (first_step l) (n + 1)) (findings-append kind code events (event ∷ [])) ∙ first_step-append (findings kind code events) (findings kind code (event ∷ [])) (n + 1) in
+    = ap (λ l. unwrap_or (first_step l) (n + 1)) (findings-append kind code events (event ∷ [])) ∙ first_step-append (findings kind code events) (findings kind code (event ∷ [])) (n + 1) in
     subst (λ x. Goes n (unwrap_or (first_step (findings kind code events)) n) x) (sym same)
     (first_goes n (first_step (findings kind code events)) (first_step (findings kind code (event ∷ []))) (first_below kind code n events below) (first_at kind code n event at))
 

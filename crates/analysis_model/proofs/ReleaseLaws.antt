@@ -57,32 +57,32 @@ before_step-append p xs ys = ap (before_step p) (output-append xs ys) ∙ filter
 -- what the step's event changes: nothing where some required analysis refuses it or has refused before, else its byte follows
 pub record Releases (code : List Span) (kinds : List Kind) (n : ℕ) (events : List Event) (event : Event) (c d : EndCause) : Type 0 where
   pub refused : least_refused code (run_so_far (events ++ event ∷ []) (n + 1) d) kinds < n + 1
-    → released_of code (run_so_far (events ++ event ∷ []) (n + 1) d) kinds ≡ released_of code (run_so_far events n c) kinds
+      → released_of code (run_so_far (events ++ event ∷ []) (n + 1) d) kinds ≡ released_of code (run_so_far events n c) kinds
   pub passed : least_refused code (run_so_far (events ++ event ∷ []) (n + 1) d) kinds ≡ n + 1
-    → released_of code (run_so_far (events ++ event ∷ []) (n + 1) d) kinds ≡ released_of code (run_so_far events n c) kinds ++ output (event ∷ [])
+      → released_of code (run_so_far (events ++ event ∷ []) (n + 1) d) kinds ≡ released_of code (run_so_far events n c) kinds ++ output (event ∷ [])
   pub either : (least_refused code (run_so_far (events ++ event ∷ []) (n + 1) d) kinds < n + 1) ⊎ (least_refused code (run_so_far (events ++ event ∷ []) (n + 1) d) kinds ≡ n + 1)
 
 releases_by : (n old new : ℕ) (events : List Event) (event : Event) → Below n events → step_of event ≡ n → Goes n old new
     → ((new < n + 1 → before_step new (output (events ++ event ∷ [])) ≡ before_step old (output events))
-      × (new ≡ n + 1 → before_step new (output (events ++ event ∷ [])) ≡ before_step old (output events) ++ output (event ∷ []))
-      × ((new < n + 1) ⊎ (new ≡ n + 1)))
+    × (new ≡ n + 1 → before_step new (output (events ++ event ∷ [])) ≡ before_step old (output events) ++ output (event ∷ []))
+    × ((new < n + 1) ⊎ (new ≡ n + 1)))
 releases_by n old new events event below at (inl (earlier, same)) = (
   λ lt. before_step-append new events (event ∷ []) ∙ ap (λ l. before_step new (output events) ++ l) (before_step-none new event (omega arith)) ∙ append-nil (before_step new (output events)) ∙ ap (λ p. before_step p (output events)) same,
   λ is. absurd (omega arith),
-  inl (omega arith)
+  inl (omega arith),
 )
 releases_by n old new events event below at (inr (none, inl here)) = (
   λ lt. before_step-append new events (event ∷ []) ∙ ap (λ l. before_step new (output events) ++ l) (before_step-none new event (omega arith)) ∙ append-nil (before_step new (output events)) ∙ ap (λ p. before_step p (output events)) (here ∙ sym none),
   λ is. absurd (omega arith),
-  inl (omega arith)
+  inl (omega arith),
 )
 releases_by n old new events event below at (inr (none, inr later)) = (
   λ lt. absurd (omega arith),
   λ is.
-    before_step-append new events (event ∷ [])
-    ∙ ap (λ l. before_step new (output events) ++ l) (before_step-one new event (omega arith))
-    ∙ ap (λ l. l ++ output (event ∷ [])) (before_step-all n new events below (omega arith) ∙ sym (before_step-all n old events below (omega arith))),
-  inr later
+      before_step-append new events (event ∷ [])
+      ∙ ap (λ l. before_step new (output events) ++ l) (before_step-one new event (omega arith))
+      ∙ ap (λ l. l ++ output (event ∷ [])) (before_step-all n new events below (omega arith) ∙ sym (before_step-all n old events below (omega arith))),
+  inr later,
 )
 
 pub released-more : (code : List Span) (kinds : List Kind) (n : ℕ) (events : List Event) (event : Event) (c d : EndCause) → Below n events → step_of event ≡ n → Releases code kinds n events event c d

@@ -28,5 +28,9 @@ pub enum Access {
         device: bool,
     },
     /// An atomic memory operation on a word.
-    Swap { address: u32, old: u32, new: u32 },
+    Swap {
+        address: u32,
+        old: u32,
+        new: u32,
+    },
 }

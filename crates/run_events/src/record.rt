@@ -14,9 +14,16 @@ pub enum EndCause {
 #[derive(Clone, Copy, Debug, PartialEq, Eq)]
 pub enum Record {
     /// The step loads a device register and gets `value`, with a mark of 0 or 1.
-    Load { step: u32, value: u32, mark: u8 },
+    Load {
+        step: u32,
+        value: u32,
+        mark: u8,
+    },
     /// From this step on the interrupt lines are `bits`: bit 0 the timer, bit 1 the external line.
-    Lines { step: u32, bits: u8 },
+    Lines {
+        step: u32,
+        bits: u8,
+    },
     /// Before this step the disk writes `word` at `address`.
     Dma {
         step: u32,
@@ -25,7 +32,12 @@ pub enum Record {
         mark: u8,
     },
     /// All steps below this number are done.
-    Reach { step: u32 },
+    Reach {
+        step: u32,
+    },
     /// The run has this number of steps.
-    End { step: u32, cause: EndCause },
+    End {
+        step: u32,
+        cause: EndCause,
+    },
 }

@@ -33,7 +33,6 @@ fn goes_to_device(address: u32) -> bool
     address == SERIAL_DATA || address == POWER
 }
 
-
 /// Whether the instruction may be executed now.
 pub fn may_execute(registers: &[u32], ram: &Ram, instruction: Instr) -> bool
     requires registers { length registers.now ≡ 32 }
@@ -42,7 +41,12 @@ pub fn may_execute(registers: &[u32], ram: &Ram, instruction: Instr) -> bool
 {
     match instruction {
         Instr::Lui { .. } | Instr::Addi { .. } => true,
-        Instr::Store { width, rs1, immediate, .. } => {
+        Instr::Store {
+            width,
+            rs1,
+            immediate,
+            ..
+        } => {
             let address = register_sum(registers, rs1, immediate);
             goes_to_device(address) || (ram.holds(address, width) && address % width == 0)
         }

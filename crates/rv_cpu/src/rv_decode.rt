@@ -28,7 +28,11 @@ fn extend(bits: u32) -> u32
     requires { bits < 2 ^ 12 }
     ensures { result ≡ extended bits }
 {
-    if bits < 0x800 { bits } else { bits + 0xffff_f000 }
+    if bits < 0x800 {
+        bits
+    } else {
+        bits + 0xffff_f000
+    }
 }
 
 fn decode_store(word: u32) -> Option<Instr>

@@ -43,8 +43,7 @@ pub const OUTGROWN_POWER: [u8; 24] = [
     0x37, 0x06, 0x10, 0x10, 0x13, 0x00, 0x00, 0x00,
 ];
 
-pub const OUTGROWN_POWER_TEXT: &str = "\
-
+pub const OUTGROWN_POWER_TEXT: &str = "
 == aftersight report
 steps 7
 end power 0
@@ -56,8 +55,7 @@ cover range 80000000 8000001c
 cover outside at 6 pc 80000018 addr 80000018
 ";
 
-pub const EMPTY_TEXT: &str = "\
-
+pub const EMPTY_TEXT: &str = "
 == aftersight report
 steps 0
 end stuck

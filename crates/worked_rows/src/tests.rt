@@ -8,7 +8,11 @@ use std::test::Fail;
 const RUN: [&str; 5] = ["run", "guest.bin", "guest.txt", "--with", "cover"];
 
 // The files of a run: an image and a script, where they are there.
-fn files_of(alloc: Global, image: Option<&[u8]>, script: Option<&[u8]>) -> Result<MemoryFiles, Fail> {
+fn files_of(
+    alloc: Global,
+    image: Option<&[u8]>,
+    script: Option<&[u8]>,
+) -> Result<MemoryFiles, Fail> {
     let mut files = MemoryFiles::new(alloc, Vec::new(alloc))?;
     if let Some(bytes) = image {
         files.set("guest.bin", bytes)?;
@@ -123,7 +127,11 @@ fn sinks_fail(rt: HostRuntime) -> Result<(), Fail> {
         (2, 0, "H"),
         (2, 1, "H\n"),
         (3, 5, "H\n== af"),
-        (9, 2, "H\n== aftersight report\nsteps 5\nend power 0\noutput 1 released 1\nrecords 2\ncover findings 0 first none\nco"),
+        (
+            9,
+            2,
+            "H\n== aftersight report\nsteps 5\nend power 0\noutput 1 released 1\nrecords 2\ncover findings 0 first none\nco",
+        ),
     ];
     let words = words_of(alloc, &RUN)?;
     for (put, after, text) in rows {
@@ -132,8 +140,14 @@ fn sinks_fail(rt: HostRuntime) -> Result<(), Fail> {
         let mut err = sink_of(alloc, Vec::new(alloc))?;
         let outcome = aftersight_plain(alloc, &words, &mut files, &mut out, &mut err);
         assert_eq!(rt; outcome.status, 6, "put {put} fails after {after}");
-        assert!(rt; out.bytes() == text.as_bytes(), "put {put} fails after {after}");
-        assert!(rt; err.bytes() == "output failed\n".as_bytes(), "put {put} fails after {after}");
+        assert!(rt;
+            out.bytes() == text.as_bytes(),
+            "put {put} fails after {after}"
+        );
+        assert!(rt;
+            err.bytes() == "output failed\n".as_bytes(),
+            "put {put} fails after {after}"
+        );
     }
     Ok(())
 }

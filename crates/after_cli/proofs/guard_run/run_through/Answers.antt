@@ -38,7 +38,7 @@ none_left (Some x) r is false_is = cc
 -- the loop's exit at a step that is not built
 stuck : (g : Over) (c : goal.After-ended g)
     → HasEnded (code_made_of (made_of c.args.analysis.now)) (kind_made_of (made_of c.args.analysis.now)) (run_from c.args.limit c.args.cpu.now) (λ h. HasSeen c.turns.analysis h) (λ bytes. Adds g.O.Sink.holds c.args.out.now c.turns.out bytes)
-      (facts_counted c.turns.cpu.step Stuck c.turns.progress.issued c.turns.progress.released (c.turns.progress.items + 1))
+    (facts_counted c.turns.cpu.step Stuck c.turns.progress.issued c.turns.progress.released (c.turns.progress.items + 1))
 stuck g c =
     let made = made_of c.args.analysis.now in
     ends_stuck (code_made_of made) (kind_made_of made) c.args.limit c.turns._turn c.args.cpu.now c.turns.cpu (λ h. HasSeen c.turns.analysis h) (λ bytes. Adds g.O.Sink.holds c.args.out.now c.turns.out bytes)
@@ -56,7 +56,7 @@ returns-then-not-can_step-clause-ok g c = (stuck g c).put_all
 -- the loop's end at the limit
 at_limit : (g : Over) (c : goal.After-ended-2 g)
     → HasEnded (code_made_of (made_of c.args.analysis.now)) (kind_made_of (made_of c.args.analysis.now)) (run_from c.args.limit c.args.cpu.now) (λ h. HasSeen c.turns.analysis h) (λ bytes. Adds g.O.Sink.holds c.args.out.now c.turns.out bytes)
-      (facts_counted c.turns.cpu.step Limit c.turns.progress.issued c.turns.progress.released (c.turns.progress.items + 1))
+    (facts_counted c.turns.cpu.step Limit c.turns.progress.issued c.turns.progress.released (c.turns.progress.items + 1))
 at_limit g c =
     let made = made_of c.args.analysis.now in
     ends_at_limit (code_made_of made) (kind_made_of made) c.args.limit c.turns._turn c.args.cpu.now c.turns.cpu (λ h. HasSeen c.turns.analysis h) (λ bytes. Adds g.O.Sink.holds c.args.out.now c.turns.out bytes)
@@ -74,7 +74,7 @@ returns-clause-ok g c = (at_limit g c).put_all
 -- a step that was seen, passed on and counted
 stepped : (g : Over) (c : After-ended_by g)
     → HasStepped (code_made_of (made_of c.args.analysis.now)) (kind_made_of (made_of c.args.analysis.now)) c.args.limit c.turns._turn c.args.cpu.now c.turns.cpu c.step-event.new.self c.step-event.result
-      (λ h. HasSeen c.see.new.self h) (λ bytes. Adds g.O.Sink.holds c.args.out.now c.pass_on.new.out bytes) c.pass_on.new.progress.issued c.pass_on.new.progress.released c.pass_on.new.progress.items
+    (λ h. HasSeen c.see.new.self h) (λ bytes. Adds g.O.Sink.holds c.args.out.now c.pass_on.new.out bytes) c.pass_on.new.progress.issued c.pass_on.new.progress.released c.pass_on.new.progress.items
 stepped g c =
     let made = made_of c.args.analysis.now in
     steps_on (code_made_of made) (kind_made_of made) c.args.limit c.turns._turn c.args.cpu.now c.turns.cpu c.step-event.new.self c.step-event.result c.is_some-refused.result
@@ -86,7 +86,7 @@ stepped g c =
 -- the loop's exit at a power store
 by_power : (g : Over) (c : goal.After-ended-in-Some g)
     → HasEnded (code_made_of (made_of c.args.analysis.now)) (kind_made_of (made_of c.args.analysis.now)) (run_from c.args.limit c.args.cpu.now) (λ h. HasSeen c.see.new.self h) (λ bytes. Adds g.O.Sink.holds c.args.out.now c.pass_on.new.out bytes)
-      (facts_counted c.step-event.new.self.step (Power c.in-Some.status) c.pass_on.new.progress.issued c.pass_on.new.progress.released (c.pass_on.new.progress.items + 1))
+    (facts_counted c.step-event.new.self.step (Power c.in-Some.status) c.pass_on.new.progress.issued c.pass_on.new.progress.released (c.pass_on.new.progress.items + 1))
 by_power g c =
     let made = made_of c.args.analysis.now in
     ends_by_power (code_made_of made) (kind_made_of made) c.args.limit c.turns._turn c.args.cpu.now c.turns.cpu c.step-event.new.self c.step-event.result c.in-Some.status
@@ -117,8 +117,8 @@ turns-preserved g c =
     let made = made_of c.args.analysis.now in
     record {
       way = under_way_next (code_made_of made) (kind_made_of made) c.args.limit c.turns._turn c.args.cpu.now c.turns.cpu c.step-event.new.self c.step-event.result
-        (λ h. HasSeen c.see.new.self h) (λ bytes. Adds g.O.Sink.holds c.args.out.now c.pass_on.new.out bytes) c.pass_on.new.progress.issued c.pass_on.new.progress.released c.pass_on.new.progress.items
-        (sym c.in_default.ensures) (stepped g (goal.at.turns-preserved g c).After-ended_by);
+          (λ h. HasSeen c.see.new.self h) (λ bytes. Adds g.O.Sink.holds c.args.out.now c.pass_on.new.out bytes) c.pass_on.new.progress.issued c.pass_on.new.progress.released c.pass_on.new.progress.items
+          (sym c.in_default.ensures) (stepped g (goal.at.turns-preserved g c).After-ended_by);
       made = c.see.ensures.made ∙ c.turns.invariant.made;
       kib = c.see.ensures.size ∙ c.turns.invariant.kib;
       size = c.step-event.ensures.size ∙ c.turns.invariant.size;

@@ -9,7 +9,8 @@ returns-in-Ok-run_opened-clause-ok g c =
     (text_by_run c.args.file.items c.args.ram_kib c.args.limit (made_of c.in-Ok.opened.analysis) c.in-Ok.opened.cpu c.in-Ok.ensures.made c.in-Ok.ensures.cpu) c.in-Ok-run_opened.ensures.ok
 
 pub returns-clause-cause : goal.returns-clause-cause
-returns-clause-cause g c =
-    (AddsPart-same g.O.Sink.holds c.args.out.now c.run_opened.new.out
+returns-clause-cause g c = (
+  AddsPart-same g.O.Sink.holds c.args.out.now c.run_opened.new.out
       (text_by_run c.args.file.items c.args.ram_kib c.args.limit (made_of c.in-Ok.opened.analysis) c.in-Ok.opened.cpu c.in-Ok.ensures.made c.in-Ok.ensures.cpu) c.in-Err-run_opened.ensures.err,
-    c.in-Err-run_opened.ensures.cause)
+  c.in-Err-run_opened.ensures.cause,
+)

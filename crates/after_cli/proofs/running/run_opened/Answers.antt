@@ -16,5 +16,5 @@ returns-in-Err-report-clause-err g c =
     let facts = run_facts (code_made_of made) run (kind_made_of made ∷ []) in
     AddsPart-then g.O.Sink.holds c.args.out.now c.run_through.new.out c.report.new.out (released_bytes made run) (head_text facts ++ part_text (code_made_of made) run.events (kind_made_of made)) c.in-Ok.ensures.ok
     (AddsPart-same g.O.Sink.holds c.run_through.new.out c.report.new.out
-      (report_same made (made_of c.run_through.new.analysis) run.events (facts_of c.in-Ok.facts) facts c.in-Ok.ensures.facts c.in-Ok.ensures.made)
-      (c.in-Err-report.ensures.err run.events c.in-Ok.ensures.seen))
+    (report_same made (made_of c.run_through.new.analysis) run.events (facts_of c.in-Ok.facts) facts c.in-Ok.ensures.facts c.in-Ok.ensures.made)
+    (c.in-Err-report.ensures.err run.events c.in-Ok.ensures.seen))

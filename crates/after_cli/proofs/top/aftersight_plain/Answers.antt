@@ -7,13 +7,13 @@ pub returns-clause-status : goal.returns-clause-status
 returns-clause-status g c =
     subst IsStatus (sym (c.end_with.ensures.status ∙ c.status.ensures))
     (known (g.F.Files.content c.args.files.now) (map string_bytes c.args.words.now) (g.F.Files.faults c.args.files.now) (g.F.Files.faults c.answer_words-answer.new.files) g.O.Sink.holds g.O.Sink.faults c.args.out.now c.answer_words-answer.new.out
-      c.answer_words-answer.result c.answer_words-answer.ensures.means)
+    c.answer_words-answer.result c.answer_words-answer.ensures.means)
 
 pub returns-clause-done : goal.returns-clause-done
 returns-clause-done g c = λ of.
     subst (IsDone (g.F.Files.content c.args.files.now) (map string_bytes c.args.words.now) g.O.Sink.holds c.args.out.now c.answer_words-answer.new.out) (sym (c.end_with.ensures.status ∙ c.status.ensures))
     (done (g.F.Files.content c.args.files.now) (map string_bytes c.args.words.now) (g.F.Files.faults c.args.files.now) (g.F.Files.faults c.answer_words-answer.new.files) g.O.Sink.holds g.O.Sink.faults c.args.out.now c.answer_words-answer.new.out
-      c.answer_words-answer.result c.answer_words-answer.ensures.means (subst IsOfDone (c.end_with.ensures.status ∙ c.status.ensures) of))
+    c.answer_words-answer.result c.answer_words-answer.ensures.means (subst IsOfDone (c.end_with.ensures.status ∙ c.status.ensures) of))
 
 pub returns-clause-output_failed : goal.returns-clause-output_failed
 returns-clause-output_failed g c = λ is.
