@@ -1,13 +1,12 @@
 -- What the two reads of a run's files say together.
-use Rattle.std.proofs.Common.{◌≡◌, ◌⊎◌, inl, inr, ⊎_elim, ℕ, suc, ◌≤◌, List, [], ◌∷◌, length, Option, Some, Result, Err, refl, sym, subst, ◌∙◌, ap, arith, vec_len, Vec}
+use Rattle.std.proofs.Common.{◌≡◌, inl, inr, ℕ, ◌≤◌, List, [], ◌∷◌, length, Option, Some, Err, refl, subst, ◌∙◌, ap, arith}
 use Rattle.after_edge.specs.declared.reading.FileFault.{FileFault}
 use Rattle.after_edge.specs.declared.reading.FileFault.TheVariants.{Absent, Failed, TooLong, NoMemory}
-use Rattle.after_edge.specs.Fault.{Rose}
-use Rattle.after_edge.specs.Files.{Contents, IfTold, IsAbsent, HasAbsentCause}
+use Rattle.after_edge.specs.Files.{Contents, IfTold}
 use Rattle.after_edge.specs.Reading.{HasFileCause}
 use Rattle.after_edge.proofs.FaultLaws.{Rose-before}
 use Rattle.after_cli.specs.declared.inputs.TheConstants.{IMAGE_MAX, SCRIPT_MAX}
-use Rattle.after_cli.specs.Inputs.{IsRead, AreInputs, HasRefusalCause, refusal_of}
+use Rattle.after_cli.specs.Inputs.{IsRead, HasRefusalCause, refusal_of}
 
 -- the script's fault, after the image was read
 pub script_refused : (V : Type 0) (content : Option Contents) (image script file : List ℕ) (before between now : ℕ) (fault : FileFault) → IsRead content image IMAGE_MAX file → before ≤ between

@@ -4,7 +4,7 @@ use Rattle.run_events.specs.declared.event.Event.{Event}
 use Rattle.run_events.specs.declared.finding.Kind.TheVariants.{Cover}
 use Rattle.machine_model.specs.Image.{flat_image}
 use Rattle.machine_model.specs.State.{State, started}
-use Rattle.machine_model.specs.Run.{Finished, run_from}
+use Rattle.machine_model.specs.Run.{run_from}
 use Rattle.analysis_model.specs.Made.{make_of, kind_made_of, code_made_of}
 use Rattle.analysis_model.specs.Report.{Facts, head_text, run_facts, part_text, text}
 use Rattle.after_cli.specs.Passing.{released_bytes}

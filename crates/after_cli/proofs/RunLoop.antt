@@ -1,5 +1,5 @@
 -- The loop of a run: what holds after each event, and what is left at each end.
-use Rattle.std.proofs.Common.{◌≡◌, ◌⊎◌, inl, inr, ⊎_elim, ℕ, zero, suc, ◌+◌, ◌<◌, ◌≤◌, min, Bool, true, false, cond, List, [], ◌∷◌, ◌++◌, length, map, Option, Some, None, refl, sym, ap, subst, ◌∙◌, arith, append-nil, length-append}
+use Rattle.std.proofs.Common.{◌≡◌, ℕ, zero, suc, ◌+◌, ◌<◌, ◌≤◌, min, Bool, true, false, cond, List, [], ◌∷◌, ◌++◌, length, map, Option, Some, None, refl, sym, ap, subst, ◌∙◌, arith, append-nil, length-append}
 use Rattle.std.specs.Prelude.{IfSome, is_some, unwrap_or, ◌||◌, ◌%◌, ◌==◌}
 use Rattle.std.specs.Option.{option_map}
 use Rattle.std.specs.List.{flat_map, cons_option}
@@ -11,17 +11,16 @@ use Rattle.run_events.specs.declared.event.Event.{Event}
 use Rattle.run_events.specs.declared.finding.Kind.{Kind}
 use Rattle.run_events.specs.declared.record.EndCause.{EndCause}
 use Rattle.run_events.specs.declared.record.EndCause.TheVariants.{Power, Limit, Stuck}
-use Rattle.run_events.specs.declared.record.Record.{Record}
 use Rattle.run_events.specs.declared.record.Record.TheVariants.{Reach, End}
 use Rattle.run_events.specs.Event.{step_of}
 use Rattle.machine_model.specs.State.{State}
 use Rattle.machine_model.specs.Step.{step_from}
 use Rattle.machine_model.specs.Run.{Finished, run_from, output, records_of, log, power_status, serial_byte}
-use Rattle.machine_model.proofs.RunLaws.{IsStep, step_from-IsStep, run_from-limit, run_from-stuck, run_from-power, run_from-goes, after_events, after_events-more}
+use Rattle.machine_model.proofs.RunLaws.{step_from-IsStep, run_from-limit, run_from-stuck, run_from-power, run_from-goes, after_events, after_events-more}
 use Rattle.analysis_model.specs.Cover.{Span}
 use Rattle.analysis_model.specs.Findings.{findings, first_step}
 use Rattle.analysis_model.specs.Made.{kind_made_of, code_made_of}
-use Rattle.analysis_model.specs.Job.{least_refused, released_of}
+use Rattle.analysis_model.specs.Job.{released_of}
 use Rattle.analysis_model.specs.Report.{Facts, run_facts}
 use Rattle.analysis_model.proofs.FirstLaws.{Below, Below-more, first_below, run_so_far}
 use Rattle.analysis_model.proofs.ReleaseLaws.{output-append, released-more, released_front}

@@ -1,5 +1,5 @@
 -- The files of a run: what is taken, and why they are not.
-use Rattle.std.specs.Prelude.{◌≡◌, ◌⊎◌, ◌≤◌, ◌<◌, ℕ, ◌==◌, ◌&&◌, Bool, true, false, List, [], ◌∷◌, length, Option, Some}
+use Rattle.std.specs.Prelude.{◌≡◌, ◌⊎◌, ◌≤◌, ℕ, ◌==◌, ◌&&◌, Bool, true, false, List, [], ◌∷◌, length, Option, Some}
 use Rattle.after_edge.specs.declared.reading.FileFault.{FileFault}
 use Rattle.after_edge.specs.declared.reading.FileFault.TheVariants as fault
 use Rattle.after_edge.specs.Fault.{Rose}

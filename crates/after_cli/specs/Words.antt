@@ -1,5 +1,5 @@
 -- The words of the jobs that are built.
-use Rattle.std.specs.Prelude.{◌≡◌, ℕ, ◌==◌, Bool, true, false, not, IsTrue, List, [], ◌∷◌, codes}
+use Rattle.std.specs.Prelude.{◌≡◌, ℕ, ◌==◌, Bool, false, not, IsTrue, List, [], ◌∷◌, codes}
 
 -- a word that may name a file: it is not empty, and does not begin with a dash
 abbrev pub is_plain : List ℕ → Bool

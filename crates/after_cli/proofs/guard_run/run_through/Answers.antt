@@ -1,17 +1,15 @@
-use Rattle.std.proofs.Common.{◌≡◌, ℕ, ◌+◌, ◌<◌, ◌≤◌, [], ◌∷◌, ◌++◌, length, List, Bool, true, false, Option, Some, None, refl, sym, ap, subst, ◌∙◌, arith}
+use Rattle.std.proofs.Common.{◌≡◌, ◌+◌, Bool, false, Option, Some, None, refl, sym, ap, ◌∙◌, arith}
 use Rattle.std.specs.Prelude.{is_some}
 use Rattle.after_edge.specs.Sink.{Adds, AddsPart}
 use Rattle.after_edge.proofs.SinkLaws.{Adds-nothing, Adds-then, AddsPart-then, AddsPart-front}
-use Rattle.run_events.specs.declared.event.Event.{Event}
 use Rattle.run_events.specs.declared.record.EndCause.TheVariants.{Power, Limit, Stuck}
 use Rattle.machine_model.specs.Run.{run_from}
 use Rattle.machine_model.specs.Step.{step_from}
 use Rattle.machine_model.proofs.RunLaws.{step_from-IsStep}
-use Rattle.analysis_model.specs.Findings.{findings, first_step}
 use Rattle.analysis_model.specs.Made.{code_made_of, kind_made_of}
 use Rattle.analysis_set.specs.Analysis.{HasSeen, made_of}
-use Rattle.after_cli.specs.Passing.{passed, sent, facts_counted}
-use Rattle.after_cli.proofs.RunLoop.{IsUnderWay, HasStepped, HasEnded, under_way_first, under_way_next, ends_at_limit, ends_stuck, ends_by_power, steps_on, fails_within, sent_short, passed_short, records_short, refused_by}
+use Rattle.after_cli.specs.Passing.{passed, facts_counted}
+use Rattle.after_cli.proofs.RunLoop.{HasStepped, HasEnded, under_way_first, under_way_next, ends_at_limit, ends_stuck, ends_by_power, steps_on, fails_within, sent_short, passed_short, records_short, refused_by}
 use Rattle.after_cli.proofs.guard_run.run_through.Given.{Over}
 use Rattle.after_cli.proofs.guard_run.run_through.Goals as goal
 use Rattle.after_cli.proofs.guard_run.run_through.Goals.{After-ended_by}

@@ -1,4 +1,4 @@
-use Rattle.std.proofs.Common.{◌≡◌, arith, inr, ℕ, ◌≤◌, length, subst, sym, ◌∙◌, ap, true, Vec}
+use Rattle.std.proofs.Common.{◌≡◌, arith, inr, ℕ, subst, sym, ◌∙◌, ap, true, Vec}
 use Rattle.std.specs.declared.alloc.Global.{Global}
 use Rattle.after_cli.specs.declared.inputs.TheConstants.{IMAGE_MAX}
 use Rattle.after_cli.specs.Inputs.{IsRead, HasRefusalCause, is_elf}

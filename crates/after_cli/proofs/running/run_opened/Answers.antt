@@ -1,4 +1,4 @@
-use Rattle.std.proofs.Common.{[], ◌∷◌, ◌++◌, List}
+use Rattle.std.proofs.Common.{[], ◌∷◌, ◌++◌}
 use Rattle.after_edge.proofs.SinkLaws.{AddsPart-then, AddsPart-same}
 use Rattle.machine_model.specs.Run.{run_from}
 use Rattle.analysis_model.specs.Made.{code_made_of, kind_made_of}

@@ -1,4 +1,4 @@
-use Rattle.std.proofs.Common.{◌≡◌, ℕ, List, map, string_bytes, ◌∙◌, ap, subst}
+use Rattle.std.proofs.Common.{◌∙◌, ap, subst}
 use Rattle.after_edge.specs.Sink.{Adds, AddsPart}
 use Rattle.analysis_model.specs.Job.{Job, status}
 use Rattle.analysis_model.specs.Report.{text}

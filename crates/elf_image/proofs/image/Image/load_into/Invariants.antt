@@ -1,4 +1,4 @@
-use Rattle.std.proofs.Common.{◌≡◌, ℕ, length, drop}
+use Rattle.std.proofs.Common.{◌≡◌, length, drop}
 use Rattle.machine_model.specs.Image.{ram_with, IsLoadable}
 use Rattle.elf_image.proofs.image.Image.load_into.Given as goal
 
