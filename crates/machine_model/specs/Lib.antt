@@ -1,5 +1,7 @@
 pub mod Image
 pub mod Instruction
+pub mod Items
+pub mod Replay
 pub mod State
 pub mod Step
 pub mod Run

@@ -1,0 +1,72 @@
+-- Which records there are, and in which order they may stand.
+use Rattle.std.specs.Prelude.{ℕ, ◌+◌, ◌≤◌, Bool, true, not, ◌&&◌, ◌||◌, ◌==◌, nat_lt, List, [], ◌∷◌, reverse, if◌then◌else◌}
+use Rattle.run_events.specs.declared.record.Record.{Record}
+use Rattle.run_events.specs.declared.record.Record.TheVariants.{Load, Lines, Dma, Reach, End}
+
+-- the number of a record
+abbrev pub number : Record → ℕ
+number (Load step value mark) = step
+number (Lines step bits) = step
+number (Dma step address word mark) = step
+number (Reach step) = step
+number (End step cause) = step
+
+-- the largest number of a record
+abbrev pub IsNumber : ℕ → Type 0
+IsNumber step = step ≤ 1000000000
+
+-- 0 is unmarked
+abbrev pub IsMark : ℕ → Type 0
+IsMark mark = mark ≤ 1
+
+-- the record is one that has a spelling: its number, its lines and its mark are in range
+abbrev pub IsRecord : Record → Type 0
+IsRecord (Load step value mark) = IsNumber step × IsMark mark
+IsRecord (Lines step bits) = IsNumber step × (bits ≤ 3)
+IsRecord (Dma step address word mark) = IsNumber step × IsMark mark
+IsRecord (Reach step) = IsNumber step
+IsRecord (End step cause) = IsNumber step
+
+-- records of one number stand by their ranks
+abbrev pub rank : Record → ℕ
+rank (Reach step) = 0
+rank (Dma step address word mark) = 1
+rank (Lines step bits) = 2
+rank (Load step value mark) = 3
+rank (End step cause) = 4
+
+abbrev pub is_dma : Record → Bool
+is_dma record' = rank record' == 1
+
+abbrev pub is_end : Record → Bool
+is_end record' = rank record' == 4
+
+-- how many words of the disk have this number
+abbrev pub dmas_at : ℕ → List Record → ℕ
+dmas_at step [] = 0
+dmas_at step (item ∷ items) = if is_dma item && number item == step then dmas_at step items + 1 else dmas_at step items
+
+-- A record may stand behind these, of which the last is given first: nothing stands behind an end; the number does not
+-- fall; among records of one number the rank rises, but for at most 128 words of the disk.
+abbrev pub is_admitted : List Record → Record → Bool
+is_admitted [] item = true
+is_admitted (last ∷ before) item =
+    not (is_end last)
+    && (nat_lt (number last) (number item)
+    || (number last == number item && (nat_lt (rank last) (rank item) || (is_dma last && (is_dma item && nat_lt (dmas_at (number item) (last ∷ before)) 128)))))
+
+-- each record, read from the last one back, is admitted behind those before it
+abbrev pub is_ordered_back : List Record → Bool
+is_ordered_back [] = true
+is_ordered_back (last ∷ before) = is_admitted before last && is_ordered_back before
+
+abbrev pub is_ordered : List Record → Bool
+is_ordered items = is_ordered_back (reverse items)
+
+-- how far a list of records comes: the number of its last one
+abbrev pub reach_back : List Record → ℕ
+reach_back [] = 0
+reach_back (last ∷ before) = number last
+
+abbrev pub reach : List Record → ℕ
+reach items = reach_back (reverse items)
