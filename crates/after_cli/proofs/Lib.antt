@@ -1,4 +1,5 @@
 mod AnswerLaws
+mod CompleteLaws
 mod DefaultJob
 mod InputLaws
 mod JobLaws

@@ -1,11 +1,12 @@
 -- What the top call answers, and the cause of each answer.
-use Rattle.std.specs.Prelude.{◌≡◌, ◌⊎◌, ℕ, ◌==◌, List, [], Option, codes, if◌then◌else◌}
+use Rattle.std.specs.Prelude.{◌≡◌, ◌⊎◌, ◌≤◌, ℕ, ◌==◌, false, List, [], length, Option, Some, codes, if◌then◌else◌}
 use Rattle.after_edge.specs.Fault.{Rose}
 use Rattle.after_edge.specs.Files.{Contents}
 use Rattle.after_edge.specs.Sink.{Adds, AddsPart}
 use Rattle.analysis_model.specs.Job.{status}
 use Rattle.analysis_model.specs.Report.{line, text}
-use Rattle.after_cli.specs.Inputs.{AreInputs, AreNotBuilt, HaveFailed}
+use Rattle.after_cli.specs.declared.inputs.TheConstants.{IMAGE_MAX}
+use Rattle.after_cli.specs.Inputs.{AreInputs, AreNotBuilt, HaveFailed, is_elf}
 use Rattle.after_cli.specs.Job.{default_job}
 use Rattle.after_cli.specs.Words.{NamesRun, NamesNoRun}
 
@@ -72,3 +73,19 @@ line_of number =
 -- the line was added, or the sink failed and some front of it was added
 abbrev pub TellsLine : {S : Type 0} → (S → List ℕ → Type 0) → (S → ℕ) → S → S → List ℕ → Type 0
 TellsLine holds faults old new told = Adds holds old new told ⊎ (Rose (faults old) (faults new) × AddsPart holds old new told)
+
+-- the files tell the content of a run that is built, whose guest is this file
+pub record IsToldRun (content : Option Contents) (words : List (List ℕ)) (file : List ℕ) : Type 0 where
+  pub files : Contents
+  pub told : content ≡ Some files
+  pub image : List ℕ
+  pub script : List ℕ
+  pub named : NamesRun words image script
+  pub image_is : files image ≡ Some file
+  pub within : length file ≤ IMAGE_MAX
+  pub headless : is_elf file ≡ false
+  pub script_is : files script ≡ Some []
+
+-- the whole text of the job was added, and the status is the job's; or memory was wanting
+abbrev pub IsWhole : {S : Type 0} → (S → List ℕ → Type 0) → S → S → ℕ → List ℕ → Type 0
+IsWhole holds old new number file = (number ≡ 9) ⊎ (Adds holds old new (text (default_job file)) × (number ≡ status (default_job file)))

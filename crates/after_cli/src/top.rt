@@ -1,5 +1,6 @@
-ghost use Rattle.std.specs.Prelude.{◌≡◌, ◌≤◌, length, map, string_bytes};
-ghost use Rattle.after_cli.specs.Answer.{IsDone, OutputHasFailed, FilesHaveFailed, IsNotBuilt, IsOfDone, IsOfRefusal, IsStatus, TellsLine, line_of};
+ghost use Rattle.std.specs.Prelude.{◌≡◌, ◌≤◌, ℕ, List, map, string_bytes};
+ghost use Rattle.after_cli.specs.Answer.{IsDone, OutputHasFailed, FilesHaveFailed, IsNotBuilt, IsOfDone, IsOfRefusal, IsStatus, IsToldRun, IsWhole, TellsLine, line_of};
+ghost use Rattle.after_edge.specs.Fault.{Rose};
 ghost use Rattle.after_cli.specs.Means.{Means, number_of, answer_to};
 
 use crate::command_words::run_words;
@@ -129,6 +130,11 @@ pub fn aftersight_plain<F: Files, O: Sink, E: Sink>(
     ensures output_failed { result.status ≡ 6 → OutputHasFailed (F.content files.old) (map string_bytes words.now) O.holds O.faults out.old out.new }
     ensures files_failed { result.status ≡ 5 → FilesHaveFailed (F.content files.old) (map string_bytes words.now) (F.faults files.old) (F.faults files.new) }
     ensures not_built { result.status ≡ 10 → IsNotBuilt (F.content files.old) (map string_bytes words.now) }
+
+    // Where the files tell the content of a run, and neither they nor the output fail, that run is done.
+    ensures complete { (file : List ℕ) → IsToldRun (F.content files.old) (map string_bytes words.now) file
+        → ¬ Rose (F.faults files.old) (F.faults files.new) → ¬ Rose (O.faults out.old) (O.faults out.new)
+        → IsWhole O.holds out.old out.new result.status file }
 
     // What stands afterwards.
     ensures refused { IsOfRefusal result.status → out.new ≡ out.old }
