@@ -69,3 +69,10 @@ pub fn read_flat(alloc: Global, file: Vec<u8>) -> Result<Image, NoMemory>
         segments: vec![in alloc; segment]?,
     })
 }
+
+// An image may be handed to another thread, and be read by several.
+fn crosses_threads<T: Send + Sync>(_value: &T) {}
+
+fn image_crosses_threads(image: &Image) {
+    crosses_threads(image);
+}
