@@ -35,7 +35,7 @@ findings-append Locks code xs ys = refl
 stands_at : (code : List Span) (step pc : ℕ) → IfSome (outside_at code step pc) (λ finding. finding.step ≡ step)
 stands_at code step pc = elim (is_within code pc) as (λ b. IfSome {T = Finding} (cond b None (Some (record { step = step; pc = pc; kind = Outside; address = pc }))) (λ finding. finding.step ≡ step)) [ true ↦ tt | false ↦ refl ]
 
-outside_stands : (code : List Span) (event : Event) → IfSome (outside code event) (λ finding. finding.step ≡ step_of event)
+pub outside_stands : (code : List Span) (event : Event) → IfSome (outside code event) (λ finding. finding.step ≡ step_of event)
 outside_stands code (Dma step address word mark) = tt
 outside_stands code (Irq step pc cause next) = tt
 outside_stands code (Trap step pc word cause value next) = stands_at code step pc
@@ -65,7 +65,7 @@ Goes n before after = ((before < n) × (after ≡ before)) ⊎ ((before ≡ n) �
 abbrev pub run_so_far : List Event → ℕ → EndCause → Finished
 run_so_far events steps cause = record { events = events; steps = steps; cause = cause }
 
-first_step-append : (xs ys : List Finding) (n : ℕ) → unwrap_or (first_step (xs ++ ys)) n ≡ unwrap_or (first_step xs) (unwrap_or (first_step ys) n)
+pub first_step-append : (xs ys : List Finding) (n : ℕ) → unwrap_or (first_step (xs ++ ys)) n ≡ unwrap_or (first_step xs) (unwrap_or (first_step ys) n)
 first_step-append [] ys n = refl
 first_step-append (x ∷ xs) ys n = refl
 

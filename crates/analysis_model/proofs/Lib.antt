@@ -2,3 +2,4 @@ mod Examples
 pub mod MadeLaws
 pub mod FirstLaws
 pub mod ReleaseLaws
+pub mod StopLaws

@@ -1,0 +1,50 @@
+-- Whether a step is let out, by what an analysis has found up to it: the stop looks at the whole run, a replica at the
+-- events that it has seen.
+use Rattle.std.proofs.Common.{◌≡◌, ℕ, ◌+◌, ◌<◌, ◌≤◌, min, Bool, true, false, List, [], ◌∷◌, ◌++◌, Option, Some, None, refl, sym, ap, ◌∙◌, arith}
+use Rattle.std.specs.Prelude.{IfSome, is_some, unwrap_or, not, nat_lt}
+use Rattle.std.specs.List.{filter_map, cons_option, AllByRecursion}
+use Rattle.run_events.specs.declared.event.Event.{Event}
+use Rattle.run_events.specs.declared.finding.Finding.{Finding}
+use Rattle.run_events.specs.declared.finding.Kind.{Kind}
+use Rattle.run_events.specs.declared.finding.Kind.TheVariants.{Heap, Taint, Calls, Cover, Locks}
+use Rattle.run_events.specs.Event.{step_of}
+use Rattle.machine_model.specs.Run.{Finished}
+use Rattle.analysis_model.specs.Cover.{Span, outside}
+use Rattle.analysis_model.specs.Findings.{findings, first_step}
+use Rattle.analysis_model.specs.Job.{least_refused}
+use Rattle.analysis_model.proofs.FirstLaws.{Below, findings-append, first_below, first_step-append, outside_stands}
+
+-- no event stands before this step
+abbrev pub From : ℕ → List Event → Type 0
+From n events = AllByRecursion (λ event. n ≤ step_of event) events
+
+from_first : (code : List Span) (n : ℕ) (event : Event) (events : List Event) → n ≤ step_of event → IfSome (first_step (filter_map (outside code) events)) (λ f. n ≤ f) → IfSome (first_step (filter_map (outside code) (event ∷ events))) (λ f. n ≤ f)
+from_first code n event events from rest = by_case (outside code event) (outside_stands code event)
+  where
+    by_case : (o : Option Finding) → IfSome o (λ finding. finding.step ≡ step_of event) → IfSome (first_step (cons_option o (filter_map (outside code) events))) (λ f. n ≤ f)
+    by_case None at = rest
+    by_case (Some finding) at = omega (arith, at)
+
+-- the first finding of events from n on stands at n or behind
+pub first_from : (kind : Kind) (code : List Span) (n : ℕ) (events : List Event) → From n events → IfSome (first_step (findings kind code events)) (λ f. n ≤ f)
+first_from Cover code n [] from = tt
+first_from Cover code n (event ∷ events) from = from_first code n event events from.0 (first_from Cover code n events from.1)
+first_from Heap code n events from = tt
+first_from Taint code n events from = tt
+first_from Calls code n events from = tt
+first_from Locks code n events from = tt
+
+let_out_by : (step steps : ℕ) (old new : Option ℕ) → IfSome old (λ f. f < step + 1) → IfSome new (λ f. step + 1 ≤ f) → step + 1 ≤ steps
+    → nat_lt step (min (unwrap_or old (unwrap_or new steps)) steps) ≡ not (is_some old)
+let_out_by step steps (Some f) new below from le = grind (arith, below)
+let_out_by step steps None (Some f) below from le = grind (arith, from, le)
+let_out_by step steps None None below from le = grind (arith, le)
+
+-- the step of the last event seen is let out exactly where the analysis has found nothing yet
+pub let_out_here : (kind : Kind) (code : List Span) (run : Finished) (seen rest : List Event) (step : ℕ) → run.events ≡ seen ++ rest → Below (step + 1) seen → From (step + 1) rest → step + 1 ≤ run.steps
+    → nat_lt step (least_refused code run (kind ∷ [])) ≡ not (is_some (first_step (findings kind code seen)))
+let_out_here kind code run seen rest step is below from le =
+    let all : unwrap_or (first_step (findings kind code run.events)) run.steps ≡ unwrap_or (first_step (findings kind code seen)) (unwrap_or (first_step (findings kind code rest)) run.steps)
+        = ap (λ l. unwrap_or (first_step (findings kind code l)) run.steps) is ∙ ap (λ l. unwrap_or (first_step l) run.steps) (findings-append kind code seen rest) ∙ first_step-append (findings kind code seen) (findings kind code rest) run.steps in
+    ap (λ n. nat_lt step (min n run.steps)) all
+    ∙ let_out_by step run.steps (first_step (findings kind code seen)) (first_step (findings kind code rest)) (first_below kind code (step + 1) seen below) (first_from kind code (step + 1) rest from) le
