@@ -1,1 +1,2 @@
+mod ReplayExamples
 pub mod RunLaws
