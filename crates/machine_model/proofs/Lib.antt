@@ -1,2 +1,3 @@
 pub mod NumberLaws
+mod ReplayExamples
 pub mod RunLaws

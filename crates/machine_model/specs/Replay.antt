@@ -1,9 +1,10 @@
 -- The replay of a list of records: what is executed and shown, and where the list does not fit the guest.
 -- The machine has no devices yet: the list has Reach and End records alone.
 use Rattle.std.proofs.Common.{zero, suc}
-use Rattle.std.specs.Prelude.{ℕ, ◌+◌, Bool, true, false, not, ◌&&◌, ◌==◌, List, [], ◌∷◌, ◌++◌, reverse, Option, None, Some, is_some, if◌then◌else◌}
-use Rattle.std.specs.Option.{option_and_then, option_map}
+use Rattle.std.specs.Prelude.{ℕ, ◌+◌, Bool, true, false, not, ◌&&◌, ◌||◌, ◌==◌, nat_lt, List, [], ◌∷◌, ◌++◌, reverse, Option, None, Some, is_some, if◌then◌else◌}
+use Rattle.std.specs.Option.{option_and_then, option_map, option_or, option_to_list}
 use Rattle.run_events.specs.declared.event.Event.{Event}
+use Rattle.run_events.specs.declared.record.EndCause.{EndCause}
 use Rattle.run_events.specs.declared.record.EndCause.TheVariants.{Power, Limit, Stuck}
 use Rattle.run_events.specs.declared.record.Record.{Record}
 use Rattle.run_events.specs.declared.record.Record.TheVariants.{Load, Lines, Dma, Reach, End}
@@ -20,95 +21,102 @@ unfoldable pub state_at : ℕ → State → Option State
 state_at zero start = Some start
 state_at (suc k) start = option_and_then next_of (state_at k start)
 
--- the event of a step
+-- the event of a step, where it and all steps before it are built
+abbrev pub shown_at : State → Option Event
+shown_at s = option_map (λ step. step.0) (step_from s)
+
 abbrev pub event_at : ℕ → State → Option Event
-event_at k start = option_and_then (λ s. option_map (λ step. step.0) (step_from s)) (state_at k start)
+event_at k start = option_and_then shown_at (state_at k start)
 
 -- the events of the steps below a number, up to the first step that is not built
 unfoldable pub events_below : ℕ → State → List Event
 events_below zero start = []
-events_below (suc k) start = events_below k start ++ events_of (event_at k start)
-  where
-    events_of : Option Event → List Event
-    events_of None = []
-    events_of (Some event) = event ∷ []
+events_below (suc k) start = events_below k start ++ option_to_list (event_at k start)
 
--- the status of a power store at a step
+-- the status of a power store at a step, and at the step before a number
 abbrev pub power_at : ℕ → State → Option ℕ
 power_at k start = option_and_then power_status (event_at k start)
+
+abbrev pub last_power : ℕ → State → Option ℕ
+last_power zero start = None
+last_power (suc k) start = power_at k start
 
 -- why a list of records does not fit
 pub data Fault : Type 0 where
   StepFalls : (step : ℕ) → Fault
   EndsElsewhere : (step : ℕ) → Fault
 
--- A record behind a power store at step k is either the mark that step k is done, or the end by power with its status.
-abbrev pub is_after_power : ℕ → ℕ → Record → Bool
-is_after_power k status (Reach step) = step == k + 1
-is_after_power k status (End step (Power told)) = step == k + 1 && told == status
-is_after_power k status (End step Limit) = false
-is_after_power k status (End step Stuck) = false
-is_after_power k status (Load step value mark) = false
-is_after_power k status (Lines step bits) = false
-is_after_power k status (Dma step address word mark) = false
+-- While there are no devices, only these records are taken.
+abbrev pub is_taken : Record → Bool
+is_taken (Reach step) = true
+is_taken (End step cause) = true
+is_taken (Load step value mark) = false
+is_taken (Lines step bits) = false
+is_taken (Dma step address word mark) = false
 
--- a step below a record's number ends the run elsewhere: it is not built, or it is a power store that the record does
--- not follow
+-- a record behind a power store that ends a run of this many steps: the mark that they are done, or the end by power
+-- with its status
+abbrev pub is_after_power : ℕ → ℕ → Record → Bool
+is_after_power steps status (Reach step) = step == steps
+is_after_power steps status (End step (Power told)) = step == steps && told == status
+is_after_power steps status (End step Limit) = false
+is_after_power steps status (End step Stuck) = false
+is_after_power steps status (Load step value mark) = false
+is_after_power steps status (Lines step bits) = false
+is_after_power steps status (Dma step address word mark) = false
+
+-- While some steps are not built, a run is stuck at the first of them.
+abbrev pub is_stuck : ℕ → State → Bool
+is_stuck k start = not (is_some (event_at k start))
+
+-- a step below a record's number ends the run elsewhere: it is a power store that the record does not follow, or the
+-- run is stuck at it
+abbrev pub is_elsewhere : ℕ → Option ℕ → Record → Bool
+is_elsewhere k None item = false
+is_elsewhere k (Some status) item = not (is_after_power (k + 1) status item)
+
 abbrev pub ends_at : ℕ → State → Record → Bool
-ends_at k start item = step_ends (event_at k start) (power_at k start)
-  where
-    step_ends : Option Event → Option ℕ → Bool
-    step_ends None power = true
-    step_ends (Some event) (Some status) = not (is_after_power k status item)
-    step_ends (Some event) None = false
+ends_at k start item = is_stuck k start || is_elsewhere k (power_at k start) item
 
 -- the first such step below a number
 unfoldable pub first_end : ℕ → State → Record → Option ℕ
 first_end zero start item = None
-first_end (suc k) start item = earlier (first_end k start item)
-  where
-    earlier : Option ℕ → Option ℕ
-    earlier (Some step) = Some step
-    earlier None = if ends_at k start item then Some k else None
+first_end (suc k) start item = option_or (first_end k start item) (if ends_at k start item then Some k else None)
 
--- an end record at N agrees with the guest: by power only behind a power store with its status, which rule comes
--- before; by the limit only behind no power store; stuck only where step N is not built
-abbrev pub last_power : ℕ → State → Option ℕ
-last_power zero start = None
-last_power (suc k) start = power_at k start
+-- an end agrees with the guest: by power behind a power store with its status, by the limit behind no power store,
+-- and stuck where it is
+abbrev pub has_status : ℕ → Option ℕ → Bool
+has_status told None = false
+has_status told (Some status) = told == status
 
-abbrev pub end_agrees : State → Record → Bool
-end_agrees start (End n (Power told)) = same_status (last_power n start)
-  where
-    same_status : Option ℕ → Bool
-    same_status None = false
-    same_status (Some status) = told == status
-end_agrees start (End n Limit) = not (is_some (last_power n start))
-end_agrees start (End n Stuck) = not (is_some (event_at n start))
-end_agrees start (Load step value mark) = true
-end_agrees start (Lines step bits) = true
-end_agrees start (Dma step address word mark) = true
-end_agrees start (Reach step) = true
+abbrev pub end_agrees : ℕ → EndCause → State → Bool
+end_agrees n (Power told) start = has_status told (last_power n start)
+end_agrees n Limit start = not (is_some (last_power n start))
+end_agrees n Stuck start = is_stuck n start
+
+abbrev pub agrees : State → Record → Bool
+agrees start (End n cause) = end_agrees n cause start
+agrees start (Reach step) = true
+agrees start (Load step value mark) = true
+agrees start (Lines step bits) = true
+agrees start (Dma step address word mark) = true
 
 -- what is wrong with a record behind these, of which the last is given first, if anything
+abbrev pub elsewhere : State → Record → Option ℕ → Option Fault
+elsewhere start item (Some step) = Some (EndsElsewhere step)
+elsewhere start item None = if agrees start item then None else Some (EndsElsewhere (number item))
+
 abbrev pub fault_of : State → List Record → Record → Option Fault
-fault_of start before item =
-    if is_admitted before item
-    then by_end (first_end (number item) start item)
-    else Some (StepFalls (number item))
-  where
-    by_end : Option ℕ → Option Fault
-    by_end (Some step) = Some (EndsElsewhere step)
-    by_end None = if end_agrees start item then None else Some (EndsElsewhere (number item))
+fault_of start before item = if is_admitted before item then elsewhere start item (first_end (number item) start item) else Some (StepFalls (number item))
 
 -- the first fault of a list, which is given from the last record back
-abbrev pub first_fault_back : State → List Record → Option Fault
+abbrev pub fault_behind : State → List Record → Record → Option Fault → Option Fault
+fault_behind start before item (Some fault) = Some fault
+fault_behind start before item None = fault_of start before item
+
+unfoldable pub first_fault_back : State → List Record → Option Fault
 first_fault_back start [] = None
-first_fault_back start (last ∷ before) = first_of (first_fault_back start before)
-  where
-    first_of : Option Fault → Option Fault
-    first_of (Some fault) = Some fault
-    first_of None = fault_of start before last
+first_fault_back start (last ∷ before) = fault_behind start before last (first_fault_back start before)
 
 abbrev pub first_fault : State → List Record → Option Fault
 first_fault start items = first_fault_back start (reverse items)
@@ -117,6 +125,29 @@ first_fault start items = first_fault_back start (reverse items)
 abbrev pub fits : State → List Record → Bool
 fits start items = not (is_some (first_fault start items))
 
--- what is shown of a list that fits: the events of the steps below its reach
+-- how many steps a record's fault has executed: a record that falls executes none; at a step below the record's number
+-- that ends elsewhere that step is executed too, unless the run is stuck at it; at an end's own number all steps below
+-- it are
+abbrev pub executed_to : State → List Record → Record → Option Fault → ℕ
+executed_to start before item None = number item
+executed_to start before item (Some (StepFalls step)) = reach_back before
+executed_to start before item (Some (EndsElsewhere step)) = if nat_lt step (number item) && not (is_stuck step start) then step + 1 else step
+
+-- the number of steps that a list of records has executed: its reach, where it fits
+abbrev pub executed_behind : State → List Record → Record → Option Fault → ℕ → ℕ
+executed_behind start before item (Some fault) so_far = so_far
+executed_behind start before item None so_far = executed_to start before item (fault_of start before item)
+
+unfoldable pub executed_back : State → List Record → ℕ
+executed_back start [] = 0
+executed_back start (last ∷ before) = executed_behind start before last (first_fault_back start before) (executed_back start before)
+
+abbrev pub executed : State → List Record → ℕ
+executed start items = executed_back start (reverse items)
+
+-- what is shown of a list: the events of the steps that it has executed
 abbrev pub shown_back : State → List Record → List Event
-shown_back start items = events_below (reach_back items) start
+shown_back start items = events_below (executed_back start items) start
+
+abbrev pub shown : State → List Record → List Event
+shown start items = shown_back start (reverse items)
