@@ -1,3 +1,4 @@
+pub mod Determinism
 pub mod NumberLaws
 mod ReplayExamples
 pub mod RunLaws
