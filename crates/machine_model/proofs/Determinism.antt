@@ -50,10 +50,10 @@ unfolding state_at
 next_state j start s at = ap (option_and_then next_of) at
 
 module _ (start s next : State) (event : Event) (j : ℕ) (at : state_at j start ≡ Some s) (is : step_from s ≡ Some (event, next)) where
-  stepped_event : event_at j start ≡ Some event
+  pub stepped_event : event_at j start ≡ Some event
   stepped_event = here_event j start s at ∙ ap (option_map (λ (step : Event × State). step.0)) is
 
-  stepped_state : state_at (suc j) start ≡ Some next
+  pub stepped_state : state_at (suc j) start ≡ Some next
   stepped_state = next_state j start s at ∙ ap (option_map (λ (step : Event × State). step.1)) is
 
   stepped_built : is_stuck j start ≡ false

@@ -2,3 +2,4 @@ pub mod Determinism
 pub mod NumberLaws
 mod ReplayExamples
 pub mod RunLaws
+pub mod ShownLaws
