@@ -2,5 +2,6 @@ mod AnswerLaws
 mod CompleteLaws
 mod DefaultJob
 mod InputLaws
+mod ItemLoop
 mod JobLaws
 mod RunLoop

@@ -1,4 +1,5 @@
 pub mod Answer
+pub mod Bytes
 pub mod Inputs
 pub mod Job
 pub mod JobFault
