@@ -1,0 +1,230 @@
+-- Every event of the core keeps a sound state sound.
+use Rattle.std.proofs.Common.{◌≡◌, ℕ, ◌+◌, ◌-◌, ◌<◌, ◌≤◌, ◌⊎◌, inl, inr, Bool, true, false, not, ◌&&◌, ◌||◌, ◌==◌, cond, nat_eq, nat_lt, List, [], ◌∷◌, ◌++◌, length, take, drop, reverse, min, slice_index, slice_set, arith, rules, refl, sym, ap, subst, ◌∙◌, zero, suc}
+use Rattle.std.proofs.lemmas.List.{length-drop, length-reverse, length-replicate, length-set, reverse-append, take-append-drop, drop_at, get_or-replicate}
+use Rattle.std.proofs.lemmas.Bool.{cases_lt}
+use Rattle.run_events.specs.declared.record.Record.{Record}
+use Rattle.run_events.specs.Record.{number, is_admitted, is_ordered_back, is_ordered, reach_back, reach}
+use Rattle.gate_core.specs.Core.{Plan, CoreState, CoreEvent, Append, Close, TakeNext, Post, Release, Break, reached, IsPlan, opening, IsShown, IsReleasable, MayAppend, May, approves, after_event, Leads, IsSoundAt, IsSound, StaysSound}
+
+-- a record that is admitted has no smaller number
+admitted_rises : (a b : ℕ) (first rest : Bool) → (first && (nat_lt a b || (nat_eq a b && rest))) ≡ true → a ≤ b
+admitted_rises a b first rest h = grind arith
+
+both_left : (a b : Bool) → (a && b) ≡ true → a ≡ true
+both_left true b h = refl
+both_left false b h = h
+
+both_right : (a b : Bool) → (a && b) ≡ true → b ≡ true
+both_right true b h = h
+both_right false b h = grind arith
+
+-- of records that are read from the last one back, the last has the largest number
+last_is_largest : (item : Record) (before : List Record) → is_ordered_back (item ∷ before) ≡ true → reach_back before ≤ number item
+last_is_largest item [] h = omega arith
+last_is_largest item (last ∷ before) h = admitted_rises (number last) (number item) _ _ (both_left _ _ h)
+
+drop_from_none : (k : ℕ) → reach_back (drop k []) ≡ 0
+drop_from_none zero = refl
+drop_from_none (suc k) = refl
+
+falls_at_once : (item : Record) (before : List Record) (j : ℕ) → j ≤ 0 → number item ≤ reach_back (drop j (item ∷ before))
+falls_at_once item before zero low = omega arith
+falls_at_once item before (suc j) low = absurd (omega arith)
+
+reach_falls : (items : List Record) → is_ordered_back items ≡ true → (j k : ℕ) → j ≤ k → reach_back (drop k items) ≤ reach_back (drop j items)
+reach_falls [] h j k low = omega (arith, drop_from_none j, drop_from_none k)
+reach_falls (item ∷ before) h j zero low = falls_at_once item before j low
+reach_falls (item ∷ before) h zero (suc k) low =
+    let below : 0 ≤ k = omega arith in
+    let rest : reach_back (drop k before) ≤ reach_back before = reach_falls before (both_right _ _ h) zero k below in
+    let last : reach_back before ≤ number item = last_is_largest item before h in
+    omega arith
+reach_falls (item ∷ before) h (suc j) (suc k) low = reach_falls before (both_right _ _ h) j k (omega arith)
+
+reverse_take : {X : Type 0} (n : ℕ) (xs : List X) → reverse (take n xs) ≡ drop (length xs - n) (reverse xs)
+reverse_take n xs =
+    let parts : reverse xs ≡ reverse (drop n xs) ++ reverse (take n xs) = ap reverse (sym (take-append-drop n xs)) ∙ reverse-append (take n xs) (drop n xs) in
+    let long : length (reverse (drop n xs)) ≡ length xs - n = length-reverse (drop n xs) ∙ length-drop n xs in
+    sym (ap (drop (length xs - n)) parts ∙ drop_at (reverse (drop n xs)) (reverse (take n xs)) (length xs - n) long)
+
+-- more records reach no less far
+pub reach_rises : (items : List Record) → is_ordered items ≡ true → (m n : ℕ) → m ≤ n → reach (take m items) ≤ reach (take n items)
+reach_rises items h m n low =
+    rw (reverse_take m items, reverse_take n items) (reach_falls (reverse items) h (length items - n) (length items - m) (omega arith))
+
+-- what is true of each number of a list stays so where one is replaced
+set_keeps : (P : ℕ → ℕ → Type 0) (xs : List ℕ) (i y : ℕ) → ((k : ℕ) → k < length xs → P k (slice_index xs k)) → P i y → (k : ℕ) → k < length xs → P k (slice_index (slice_set xs i y) k)
+set_keeps P [] i y all here k low = absurd (omega arith)
+set_keeps P (x ∷ xs) zero y all here k low = elim k as (λ n. n < length (x ∷ xs) → P n (slice_index (y ∷ xs) n)) [ zero ↦ λ _. here | suc n ↦ λ below. all (suc n) below ] low
+set_keeps P (x ∷ xs) (suc i) y all here zero low = all zero low
+set_keeps P (x ∷ xs) (suc i) y all here (suc k) low = set_keeps (λ n. P (suc n)) xs i y (λ n below. all (suc n) (omega arith)) here k (omega arith)
+
+set_grows : (xs : List ℕ) (i y : ℕ) → slice_index xs i ≤ y → (k : ℕ) → slice_index xs k ≤ slice_index (slice_set xs i y) k
+set_grows [] i y low k = omega arith
+set_grows (x ∷ xs) zero y low k = elim k as (λ n. slice_index (x ∷ xs) n ≤ slice_index (y ∷ xs) n) [ zero ↦ low | suc n ↦ omega arith ]
+set_grows (x ∷ xs) (suc i) y low zero = omega arith
+set_grows (x ∷ xs) (suc i) y low (suc k) = set_grows xs i y low k
+
+opening_IsSound : (plan : Plan) → IsSound plan (opening plan)
+opening_IsSound plan =
+    let none : (reader : ℕ) → reader < length plan.limits → slice_index (opening plan).taken reader ≡ 0 = λ reader low. get_or-replicate (length plan.limits) reader 0 0 low in
+    record {
+      taken = length-replicate (length plan.limits) 0;
+      approved = length-replicate (length plan.limits) 0;
+      appended = omega arith;
+      readers = λ reader low. record {
+        taken = omega (arith, none reader low);
+        room = omega arith;
+        limit = omega (arith, none reader low);
+        seen = omega (arith, none reader low);
+      };
+      released = omega arith;
+      shown = λ byte low. absurd (omega arith);
+      closed = λ h. grind arith;
+    }
+
+append_IsSound : (plan : Plan) (s : CoreState) → IsPlan plan → IsSound plan s → MayAppend plan s → IsSound plan (after_event plan s Append)
+append_IsSound plan s ok was may =
+    let more : reached plan s.appended ≤ reached plan (s.appended + 1) = reach_rises plan.items ok.items s.appended (s.appended + 1) (omega arith) in
+    record {
+      taken = was.taken;
+      approved = was.approved;
+      appended = omega (arith, may.more);
+      readers = λ reader low. record {
+        taken = omega (arith, (was.readers reader low).taken);
+        room = omega (arith, may.room reader low);
+        limit = (was.readers reader low).limit;
+        seen = (was.readers reader low).seen;
+      };
+      released = was.released;
+      shown = λ byte low. record { reached = omega (arith, more, (was.shown byte low).reached); approved = (was.shown byte low).approved };
+      closed = λ h. let both : false ≡ true = sym may.«open» ∙ h in grind arith;
+    }
+
+close_IsSound : (plan : Plan) (s : CoreState) → IsSound plan s → May plan s Close → IsSound plan (after_event plan s Close)
+close_IsSound plan s was may = record {
+  taken = was.taken;
+  approved = was.approved;
+  appended = was.appended;
+  readers = λ reader low. record {
+    taken = (was.readers reader low).taken;
+    room = (was.readers reader low).room;
+    limit = (was.readers reader low).limit;
+    seen = (was.readers reader low).seen;
+  };
+  released = was.released;
+  shown = λ byte low. record { reached = (was.shown byte low).reached; approved = (was.shown byte low).approved };
+  closed = λ h. may.1;
+}
+
+take_IsSound : (plan : Plan) (s : CoreState) (reader : ℕ) → IsPlan plan → IsSound plan s → May plan s (TakeNext reader) → IsSound plan (after_event plan s (TakeNext reader))
+take_IsSound plan s reader ok was may =
+    let count : ℕ = slice_index s.taken reader in
+    let more : reached plan count ≤ reached plan (count + 1) = reach_rises plan.items ok.items count (count + 1) (omega arith) in
+    let Fine : ℕ → ℕ → Type 0 = λ k n. (n ≤ s.appended) × (s.appended ≤ n + plan.cap) × (slice_index s.approved k ≤ reached plan n) in
+    let before : (k : ℕ) → k < length s.taken → Fine k (slice_index s.taken k) =
+    λ k low.
+    let old : IsSoundAt plan s k = was.readers k (omega (arith, was.taken)) in
+    (old.taken, old.room, old.seen) in
+    let old : IsSoundAt plan s reader = was.readers reader may.0 in
+    let here : Fine reader (count + 1) = (omega (arith, may.1), omega (arith, old.room), omega (arith, more, old.seen)) in
+    let after : (k : ℕ) → k < length s.taken → Fine k (slice_index (slice_set s.taken reader (count + 1)) k) = set_keeps Fine s.taken reader (count + 1) before here in
+    record {
+      taken = length-set _ _ _ ∙ was.taken;
+      approved = was.approved;
+      appended = was.appended;
+      readers = λ k low. let now : Fine k (slice_index (slice_set s.taken reader (count + 1)) k) = after k (omega (arith, was.taken)) in record {
+        taken = now.0;
+        room = now.1;
+        limit = (was.readers k low).limit;
+        seen = now.2;
+      };
+      released = was.released;
+      shown = λ byte low. record { reached = (was.shown byte low).reached; approved = (was.shown byte low).approved };
+      closed = was.closed;
+    }
+
+post_IsSound : (plan : Plan) (s : CoreState) (reader : ℕ) → IsSound plan s → May plan s (Post reader) → IsSound plan (after_event plan s (Post reader))
+post_IsSound plan s reader was may =
+    let step : ℕ = approves plan s reader in
+    let Fine : ℕ → ℕ → Type 0 = λ k n. (n ≤ slice_index plan.limits k) × (n ≤ reached plan (slice_index s.taken k)) in
+    let before : (k : ℕ) → k < length s.approved → Fine k (slice_index s.approved k) =
+    λ k low.
+    let old : IsSoundAt plan s k = was.readers k (omega (arith, was.approved)) in
+    (old.limit, old.seen) in
+    let old : IsSoundAt plan s reader = was.readers reader may in
+    let here : Fine reader step = (omega arith, omega arith) in
+    let rises : slice_index s.approved reader ≤ step = omega (arith, old.limit, old.seen) in
+    let after : (k : ℕ) → k < length s.approved → Fine k (slice_index (slice_set s.approved reader step) k) = set_keeps Fine s.approved reader step before here in
+    record {
+      taken = was.taken;
+      approved = length-set _ _ _ ∙ was.approved;
+      appended = was.appended;
+      readers = λ k low. let now : Fine k (slice_index (slice_set s.approved reader step) k) = after k (omega (arith, was.approved)) in record {
+        taken = (was.readers k low).taken;
+        room = (was.readers k low).room;
+        limit = now.0;
+        seen = now.1;
+      };
+      released = was.released;
+      shown = λ byte low. record {
+        reached = (was.shown byte low).reached;
+        approved = λ k needed. omega (arith, (was.shown byte low).approved k needed, set_grows s.approved reader step rises k);
+      };
+      closed = was.closed;
+    }
+
+-- bytes that may be released are shown, as those before them are
+shown_more : (plan : Plan) (s : CoreState) (count done : ℕ) → IsSound plan s → IsReleasable plan s count → done ≤ count → (byte : ℕ) → byte < s.released + done → IsShown plan s (slice_index plan.outputs byte)
+shown_more plan s count done was may part byte low =
+    elim (cases_lt byte s.released) as (λ _. IsShown plan s (slice_index plan.outputs byte)) [
+      | inl near ↦ was.shown byte near
+      | inr far ↦ may.shown byte far (omega arith)
+    ]
+
+release_IsSound : (plan : Plan) (s : CoreState) (count : ℕ) → IsSound plan s → May plan s (Release count) → IsSound plan (after_event plan s (Release count))
+release_IsSound plan s count was may = record {
+  taken = was.taken;
+  approved = was.approved;
+  appended = was.appended;
+  readers = λ reader low. record {
+    taken = (was.readers reader low).taken;
+    room = (was.readers reader low).room;
+    limit = (was.readers reader low).limit;
+    seen = (was.readers reader low).seen;
+  };
+  released = may.there;
+  shown = λ byte low. let now : IsShown plan s (slice_index plan.outputs byte) = shown_more plan s count count was may (omega arith) byte low in record { reached = now.reached; approved = now.approved };
+  closed = was.closed;
+}
+
+break_IsSound : (plan : Plan) (s : CoreState) (count done : ℕ) → IsSound plan s → May plan s (Break count done) → IsSound plan (after_event plan s (Break count done))
+break_IsSound plan s count done was may = record {
+  taken = was.taken;
+  approved = was.approved;
+  appended = was.appended;
+  readers = λ reader low. record {
+    taken = (was.readers reader low).taken;
+    room = (was.readers reader low).room;
+    limit = (was.readers reader low).limit;
+    seen = (was.readers reader low).seen;
+  };
+  released = omega (arith, may.0.there, may.1);
+  shown = λ byte low. let now : IsShown plan s (slice_index plan.outputs byte) = shown_more plan s count done was may.0 may.1 byte low in record { reached = now.reached; approved = now.approved };
+  closed = λ h. inr refl;
+}
+
+event_IsSound : (plan : Plan) (s : CoreState) (event : CoreEvent) → IsPlan plan → IsSound plan s → May plan s event → IsSound plan (after_event plan s event)
+event_IsSound plan s Append ok was may = append_IsSound plan s ok was may
+event_IsSound plan s Close ok was may = close_IsSound plan s was may
+event_IsSound plan s (TakeNext reader) ok was may = take_IsSound plan s reader ok was may
+event_IsSound plan s (Post reader) ok was may = post_IsSound plan s reader was may
+event_IsSound plan s (Release count) ok was may = release_IsSound plan s count was may
+event_IsSound plan s (Break count done) ok was may = break_IsSound plan s count done was may
+
+events_IsSound : (plan : Plan) → IsPlan plan → (events : List CoreEvent) (s last : CoreState) → IsSound plan s → Leads plan s events last → IsSound plan last
+events_IsSound plan ok [] s last was leads = subst (IsSound plan) leads was
+events_IsSound plan ok (event ∷ events) s last was leads = events_IsSound plan ok events (after_event plan s event) last (event_IsSound plan s event ok was leads.0) leads.1
+
+pub stays_IsSound : StaysSound
+stays_IsSound plan ok events s leads = events_IsSound plan ok events (opening plan) s (opening_IsSound plan) leads

@@ -1,0 +1,137 @@
+-- The order in which records are appended, taken and approved and bytes are released, with no threads and no memory:
+-- a machine over events, in numbers.
+use Rattle.std.specs.Prelude.{◌≡◌, ℕ, ◌+◌, ◌≤◌, ◌<◌, Bool, true, false, ◌⊎◌, List, [], ◌∷◌, length, take, min, replicate, slice_index, slice_set}
+use Rattle.run_events.specs.declared.record.Record.{Record}
+use Rattle.run_events.specs.Record.{is_ordered, reach}
+
+-- what is to be done: the records of a run, the steps of its output bytes, how many places the log has, below which step
+-- each replica approves, and which replicas have to approve
+pub record Plan : Type 0 where
+  pub items : List Record
+  pub outputs : List ℕ
+  pub cap : ℕ
+  pub limits : List ℕ
+  pub required : List ℕ
+
+-- how many records were appended, whether the log was closed, whether a put failed, how many records each replica has
+-- taken, below which step it has approved, and how many bytes were released
+pub record CoreState : Type 0 where
+  pub appended : ℕ
+  pub closed : Bool
+  pub failed : Bool
+  pub taken : List ℕ
+  pub approved : List ℕ
+  pub released : ℕ
+
+-- the next record is appended; the log is closed; a replica takes its next record; a replica posts how far it approves;
+-- so many bytes are released; a put of so many bytes fails after so many of them
+pub data CoreEvent : Type 0 where
+  Append : CoreEvent
+  Close : CoreEvent
+  TakeNext : ℕ → CoreEvent
+  Post : ℕ → CoreEvent
+  Release : ℕ → CoreEvent
+  Break : ℕ → ℕ → CoreEvent
+
+-- the step that the first so many records reach
+abbrev pub reached : Plan → ℕ → ℕ
+reached plan count = reach (take count plan.items)
+
+-- each step is at least the one before it, which is given
+abbrev pub RisesFrom : ℕ → List ℕ → Type 0
+RisesFrom low [] = Unit {0}
+RisesFrom low (step ∷ steps) = (low ≤ step) × RisesFrom step steps
+
+-- a plan has records in their order, and output steps that rise and that the records reach
+pub record IsPlan (plan : Plan) : Type 0 where
+  pub items : is_ordered plan.items ≡ true
+  pub rises : RisesFrom 0 plan.outputs
+  pub within : (byte : ℕ) → byte < length plan.outputs → slice_index plan.outputs byte < reach plan.items
+  pub required : (place : ℕ) → place < length plan.required → slice_index plan.required place < length plan.limits
+
+-- before the first event
+abbrev pub opening : Plan → CoreState
+opening plan = record {
+  appended = 0;
+  closed = false;
+  failed = false;
+  taken = replicate (length plan.limits) 0;
+  approved = replicate (length plan.limits) 0;
+  released = 0;
+}
+
+-- this replica has to approve
+abbrev pub IsRequired : Plan → ℕ → Type 0
+IsRequired plan reader = (place : ℕ) × (place < length plan.required) × (slice_index plan.required place ≡ reader)
+
+-- each required replica has approved the step
+abbrev pub IsApproved : Plan → CoreState → ℕ → Type 0
+IsApproved plan s step = (reader : ℕ) → IsRequired plan reader → step < slice_index s.approved reader
+
+-- the records that were appended reach beyond the step, and each required replica has approved it
+pub record IsShown (plan : Plan) (s : CoreState) (step : ℕ) : Type 0 where
+  pub reached : step < reached plan s.appended
+  pub approved : IsApproved plan s step
+
+-- so many of the next output bytes may be released, in one put
+pub record IsReleasable (plan : Plan) (s : CoreState) (count : ℕ) : Type 0 where
+  pub sound : s.failed ≡ false
+  pub some : 1 ≤ count
+  pub piece : count ≤ 4096
+  pub there : s.released + count ≤ length plan.outputs
+  pub shown : (byte : ℕ) → s.released ≤ byte → byte < s.released + count → IsShown plan s (slice_index plan.outputs byte)
+
+-- a record may be appended: the log is open, there is one, and each replica has a place for it
+pub record MayAppend (plan : Plan) (s : CoreState) : Type 0 where
+  pub «open» : s.closed ≡ false
+  pub sound : s.failed ≡ false
+  pub more : s.appended < length plan.items
+  pub room : (reader : ℕ) → reader < length plan.limits → s.appended < slice_index s.taken reader + plan.cap
+
+-- where each event may come
+abbrev pub May : Plan → CoreState → CoreEvent → Type 0
+May plan s Append = MayAppend plan s
+May plan s Close = (s.closed ≡ false) × ((s.appended ≡ length plan.items) ⊎ (s.failed ≡ true))
+May plan s (TakeNext reader) = (reader < length plan.limits) × (slice_index s.taken reader < s.appended)
+May plan s (Post reader) = reader < length plan.limits
+May plan s (Release count) = IsReleasable plan s count
+May plan s (Break count done) = IsReleasable plan s count × (done ≤ count)
+
+-- how far a replica approves: what the records reach that it has taken, but no further than its limit
+abbrev pub approves : Plan → CoreState → ℕ → ℕ
+approves plan s reader = min (slice_index plan.limits reader) (reached plan (slice_index s.taken reader))
+
+-- what each event changes
+abbrev pub after_event : Plan → CoreState → CoreEvent → CoreState
+after_event plan s Append = record s { appended = s.appended + 1 }
+after_event plan s Close = record s { closed = true }
+after_event plan s (TakeNext reader) = record s { taken = slice_set s.taken reader (slice_index s.taken reader + 1) }
+after_event plan s (Post reader) = record s { approved = slice_set s.approved reader (approves plan s reader) }
+after_event plan s (Release count) = record s { released = s.released + count }
+after_event plan s (Break count done) = record s { failed = true; released = s.released + done }
+
+-- the events may come one after another from a state, and lead to the last one
+abbrev pub Leads : Plan → CoreState → List CoreEvent → CoreState → Type 0
+Leads plan from [] to = from ≡ to
+Leads plan from (event ∷ events) to = May plan from event × Leads plan (after_event plan from event) events to
+
+-- what is true of one replica: no record that it has still to take was dropped, and it has approved no more than it may
+pub record IsSoundAt (plan : Plan) (s : CoreState) (reader : ℕ) : Type 0 where
+  pub taken : slice_index s.taken reader ≤ s.appended
+  pub room : s.appended ≤ slice_index s.taken reader + plan.cap
+  pub limit : slice_index s.approved reader ≤ slice_index plan.limits reader
+  pub seen : slice_index s.approved reader ≤ reached plan (slice_index s.taken reader)
+
+-- a sound state
+pub record IsSound (plan : Plan) (s : CoreState) : Type 0 where
+  pub taken : length s.taken ≡ length plan.limits
+  pub approved : length s.approved ≡ length plan.limits
+  pub appended : s.appended ≤ length plan.items
+  pub readers : (reader : ℕ) → reader < length plan.limits → IsSoundAt plan s reader
+  pub released : s.released ≤ length plan.outputs
+  pub shown : (byte : ℕ) → byte < s.released → IsShown plan s (slice_index plan.outputs byte)
+  pub closed : s.closed ≡ true → (s.appended ≡ length plan.items) ⊎ (s.failed ≡ true)
+
+-- every list of events leads from the opening state to a sound one
+abbrev pub StaysSound : Type 0
+StaysSound = (plan : Plan) → IsPlan plan → (events : List CoreEvent) (s : CoreState) → Leads plan (opening plan) events s → IsSound plan s

@@ -1,0 +1,6 @@
+/// The log has no place for a record, because of this reader, which has taken this many.
+#[derive(Clone, Copy, Debug, PartialEq, Eq)]
+pub struct Full {
+    pub reader: u32,
+    pub taken: u64,
+}

@@ -1,0 +1,17 @@
+//! The records of a run as its readers take them, the verdicts that they post, and what a gate may release.
+#![tactic(auto)]
+
+mod core_law;
+mod full;
+mod hub;
+mod shared;
+mod take;
+#[cfg(test)]
+mod tests;
+mod verdict;
+
+pub use core_law::core_stays_sound;
+pub use full::Full;
+pub use hub::Hub;
+pub use take::Take;
+pub use verdict::Verdict;

@@ -1,0 +1,6 @@
+/// What a reader says of a run: all steps below `approved` may be shown, and whether it refuses the rest.
+#[derive(Clone, Copy, Debug, PartialEq, Eq)]
+pub struct Verdict {
+    pub approved: u32,
+    pub refused: bool,
+}
