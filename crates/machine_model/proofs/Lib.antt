@@ -3,3 +3,4 @@ pub mod NumberLaws
 mod ReplayExamples
 pub mod RunLaws
 pub mod ShownLaws
+pub mod ItemLaws
