@@ -1,6 +1,6 @@
 -- Whether a step is let out, by what an analysis has found up to it: the stop looks at the whole run, a replica at the
 -- events that it has seen.
-use Rattle.std.proofs.Common.{◌≡◌, ℕ, ◌+◌, ◌<◌, ◌≤◌, min, Bool, true, false, List, [], ◌∷◌, ◌++◌, Option, Some, None, refl, sym, ap, ◌∙◌, arith}
+use Rattle.std.proofs.Common.{◌≡◌, ℕ, ◌+◌, ◌<◌, ◌≤◌, min, List, [], ◌∷◌, ◌++◌, Option, Some, None, ap, ◌∙◌, arith}
 use Rattle.std.specs.Prelude.{IfSome, is_some, unwrap_or, not, nat_lt}
 use Rattle.std.specs.List.{filter_map, cons_option, AllByRecursion}
 use Rattle.run_events.specs.declared.event.Event.{Event}
@@ -45,6 +45,6 @@ pub let_out_here : (kind : Kind) (code : List Span) (run : Finished) (seen rest 
     → nat_lt step (least_refused code run (kind ∷ [])) ≡ not (is_some (first_step (findings kind code seen)))
 let_out_here kind code run seen rest step is below from le =
     let all : unwrap_or (first_step (findings kind code run.events)) run.steps ≡ unwrap_or (first_step (findings kind code seen)) (unwrap_or (first_step (findings kind code rest)) run.steps)
-        = ap (λ l. unwrap_or (first_step (findings kind code l)) run.steps) is ∙ ap (λ l. unwrap_or (first_step l) run.steps) (findings-append kind code seen rest) ∙ first_step-append (findings kind code seen) (findings kind code rest) run.steps in
+    = ap (λ l. unwrap_or (first_step (findings kind code l)) run.steps) is ∙ ap (λ l. unwrap_or (first_step l) run.steps) (findings-append kind code seen rest) ∙ first_step-append (findings kind code seen) (findings kind code rest) run.steps in
     ap (λ n. nat_lt step (min n run.steps)) all
     ∙ let_out_by step run.steps (first_step (findings kind code seen)) (first_step (findings kind code rest)) (first_below kind code (step + 1) seen below) (first_from kind code (step + 1) rest from) le

@@ -1,7 +1,7 @@
 -- A run's own log fits its guest, record by record, and what is shown of it are the run's own events.
-use Rattle.std.proofs.Common.{◌≡◌, ◌⊎◌, inl, inr, ⊎_elim, ℕ, zero, suc, ◌+◌, ◌<◌, ◌≤◌, Bool, true, false, cond, eqb, List, [], ◌∷◌, ◌++◌, length, Option, Some, None, refl, sym, ap, subst, ◌∙◌, arith, append-nil, append_assoc}
+use Rattle.std.proofs.Common.{◌≡◌, ◌⊎◌, inl, inr, ⊎_elim, ℕ, zero, suc, ◌+◌, ◌<◌, ◌≤◌, Bool, true, false, cond, List, [], ◌∷◌, ◌++◌, Option, Some, None, refl, sym, ap, subst, ◌∙◌, arith, append-nil, append_assoc}
 use Rattle.std.specs.Prelude.{◌||◌, ◌&&◌, not, ◌==◌, ◌%◌, nat_lt, is_some}
-use Rattle.std.specs.Option.{option_and_then, option_map, option_or, option_to_list}
+use Rattle.std.specs.Option.{option_and_then, option_map, option_or}
 use Rattle.std.specs.List.{flat_map}
 use Rattle.std.proofs.lemmas.Bool.Decides.{nat_tests}
 use Rattle.run_events.specs.declared.event.Event.{Event}
@@ -10,12 +10,12 @@ use Rattle.run_events.specs.declared.record.EndCause.TheVariants.{Power, Limit, 
 use Rattle.run_events.specs.declared.record.Record.{Record}
 use Rattle.run_events.specs.declared.record.Record.TheVariants.{Load, Lines, Dma, Reach, End}
 use Rattle.run_events.specs.Event.{step_of}
-use Rattle.run_events.specs.Record.{number, is_admitted, reach_back}
+use Rattle.run_events.specs.Record.{number, is_admitted}
 use Rattle.machine_model.specs.State.{State}
 use Rattle.machine_model.specs.Step.{step_from}
 use Rattle.machine_model.specs.Run.{Finished, run_from, power_status, serial_byte, records_of, log}
-use Rattle.machine_model.specs.Replay.{next_of, state_at, shown_at, event_at, events_below, power_at, last_power, Fault, StepFalls, EndsElsewhere, is_after_power, is_stuck, is_elsewhere, ends_at, first_end, has_status, end_agrees, agrees, elsewhere, fault_of, fault_behind, first_fault_back}
-use Rattle.machine_model.proofs.RunLaws.{IsStep, step_from-IsStep, run_from-limit, run_from-stuck, run_from-power, run_from-goes}
+use Rattle.machine_model.specs.Replay.{next_of, state_at, shown_at, event_at, power_at, last_power, StepFalls, EndsElsewhere, is_after_power, is_stuck, is_elsewhere, ends_at, first_end, has_status, end_agrees, agrees, elsewhere, fault_of, fault_behind, first_fault_back}
+use Rattle.machine_model.proofs.RunLaws.{step_from-IsStep, run_from-limit, run_from-stuck, run_from-power, run_from-goes}
 
 -- a step that was executed and is no power store
 pub record IsClear (k : ℕ) (start : State) : Type 0 where
@@ -67,6 +67,7 @@ all_clear_more j start clear here = λ k lt. by_place k (earlier_or_here k j lt)
   where
     earlier_or_here : (k j : ℕ) → k < suc j → (k < j) ⊎ (k ≡ j)
     earlier_or_here k j lt = grind arith
+
     by_place : (k : ℕ) → (k < j) ⊎ (k ≡ j) → IsClear k start
     by_place k (inl lt) = clear k lt
     by_place k (inr is) = subst (λ i. IsClear i start) (sym is) here
@@ -147,6 +148,7 @@ below_more j start item clear here = first_end-none (suc j) start item (λ k lt.
   where
     earlier_or_here : (k : ℕ) → k < suc j → (k < j) ⊎ (k ≡ j)
     earlier_or_here k lt = grind arith
+
     by_place : (k : ℕ) → (k < j) ⊎ (k ≡ j) → ends_at k start item ≡ false
     by_place k (inl lt) = clear_ends_not k start item (clear k lt)
     by_place k (inr is) = subst (λ i. ends_at i start item ≡ false) (sym is) here
@@ -212,17 +214,17 @@ behind_event : (start s next : State) (event : Event) (before rest : List Record
 behind_event start s next event before rest o at is power clear open' fits again =
     subst (λ m. FitsOn start before (cond (is_some (serial_byte event) || m % 256 == 0) (Reach m ∷ []) [] ++ rest)) (sym (mark_of s next event is))
     (with_records start (is_some (serial_byte event) || suc s.step % 256 == 0) before rest (suc s.step) fits (again before (open_later before s.step open') fits)
-      (again (Reach (suc s.step) ∷ before) (omega arith) (mark_fits start s next event s.step at is before o power clear open' fits)))
+    (again (Reach (suc s.step) ∷ before) (omega arith) (mark_fits start s next event s.step at is before o power clear open' fits)))
 
 log_power_fits : (left : ℕ) (start s next : State) (event : Event) (status : ℕ) → step_from s ≡ Some (event, next) → power_status event ≡ Some status → LogFits (suc left) start s
 log_power_fits left start s next event status is power before at clear open' fits =
     let run_is = run_from-power left s next event status is power in
     let steps : next.step ≡ suc s.step = same_step s next event is in
     let last : (behind : List Record) → IsOpen behind (suc s.step) → first_fault_back start behind ≡ None → FitsOn start behind (End next.step (Power status) ∷ []) = λ behind opened fits'.
-      subst (λ n. FitsOn start behind (End n (Power status) ∷ [])) (sym steps)
-      (fits_end start behind (suc s.step) (Power status) fits' opened
-        (below_more s.step start (End (suc s.step) (Power status)) clear (ends_not_by start s next event s.step at is (End (suc s.step) (Power status)) (Some status) power (ap not (ends_power s.step status))))
-        (ap (has_status status) (stepped_power start s next event s.step at is ∙ power) ∙ same_number status)) in
+    subst (λ n. FitsOn start behind (End n (Power status) ∷ [])) (sym steps)
+    (fits_end start behind (suc s.step) (Power status) fits' opened
+    (below_more s.step start (End (suc s.step) (Power status)) clear (ends_not_by start s next event s.step at is (End (suc s.step) (Power status)) (Some status) power (ap not (ends_power s.step status))))
+    (ap (has_status status) (stepped_power start s next event s.step at is ∙ power) ∙ same_number status)) in
     subst (λ run. FitsOn start before (log run)) (sym run_is)
     (subst (FitsOn start before) (sym (log_power event next.step status)) (behind_event start s next event before (End next.step (Power status) ∷ []) (Some status) at is power clear open' fits last))
   where
@@ -235,7 +237,7 @@ log_goes_fits left start s next event is power again before at clear open' fits 
     let at_next : state_at next.step start ≡ Some next = subst (λ n. state_at n start ≡ Some next) (sym steps) (stepped_state start s next event s.step at is) in
     let clear_next : AllClear next.step start = subst (λ n. AllClear n start) (sym steps) (all_clear_more s.step start clear (clear_here start s next event s.step at is power)) in
     let rest : (behind : List Record) → IsOpen behind (suc s.step) → first_fault_back start behind ≡ None → FitsOn start behind (log (run_from left next)) = λ behind opened fits'.
-      again behind at_next clear_next (subst (IsOpen behind) (sym steps) opened) fits' in
+    again behind at_next clear_next (subst (IsOpen behind) (sym steps) opened) fits' in
     subst (λ run. FitsOn start before (log run)) (sym (run_from-goes left s next event is power))
     (subst (FitsOn start before) (sym (log_goes event (run_from left next))) (behind_event start s next event before (log (run_from left next)) None at is power clear open' fits rest))
 

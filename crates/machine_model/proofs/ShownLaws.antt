@@ -1,10 +1,10 @@
 -- What is shown of a front of a run's own log are the run's first events.
-use Rattle.std.proofs.Common.{◌≡◌, ℕ, zero, suc, ◌+◌, ◌<◌, ◌≤◌, Bool, true, false, cond, List, [], ◌∷◌, ◌++◌, length, take, drop, map, Option, Some, None, refl, sym, ap, subst, ◌∙◌, arith, append-nil, append_assoc}
+use Rattle.std.proofs.Common.{◌≡◌, ℕ, zero, suc, ◌+◌, ◌≤◌, Bool, true, false, cond, List, [], ◌∷◌, ◌++◌, length, take, Option, Some, None, refl, sym, ap, subst, ◌∙◌, arith, append-nil, append_assoc}
 use Rattle.std.specs.Prelude.{◌||◌, ◌%◌, ◌==◌, is_some}
-use Rattle.std.specs.Option.{option_map, option_to_list}
+use Rattle.std.specs.Option.{option_to_list}
 use Rattle.std.specs.List.{flat_map, AllByRecursion}
 use Rattle.run_events.specs.declared.event.Event.{Event}
-use Rattle.run_events.specs.declared.record.EndCause.TheVariants.{Power, Limit, Stuck}
+use Rattle.run_events.specs.declared.record.EndCause.TheVariants.{Limit}
 use Rattle.run_events.specs.declared.record.Record.{Record}
 use Rattle.run_events.specs.declared.record.Record.TheVariants.{Reach, End}
 use Rattle.run_events.specs.Event.{step_of}
@@ -63,7 +63,7 @@ shows_behind start s next event i rest at is then =
     let there : s.step + suc i ≡ next.step + i = omega arith in
     let next_is : next.step ≡ suc s.step = omega arith in
     let one : events_below next.step start ≡ events_below s.step start ++ event ∷ []
-        = ap (λ n. events_below n start) next_is ∙ events_below-suc s.step start ∙ ap (λ o. events_below s.step start ++ option_to_list o) (stepped_event start s next event s.step at is) in
+    = ap (λ n. events_below n start) next_is ∙ events_below-suc s.step start ∙ ap (λ o. events_below s.step start ++ option_to_list o) (stepped_event start s next event s.step at is) in
     ap (λ n. events_below n start) there ∙ then ∙ ap (λ l. l ++ take i rest) one ∙ append_assoc (events_below s.step start) (event ∷ []) (take i rest)
 
 shows_power : (left : ℕ) (start s next : State) (event : Event) (status : ℕ) → step_from s ≡ Some (event, next) → power_status event ≡ Some status → Shows (suc left) start s
