@@ -20,7 +20,7 @@ state_at-suc : (k : ℕ) (start : State) → state_at (suc k) start ≡ option_a
 unfolding state_at
 state_at-suc k start = refl
 
-events_below-first : (start : State) → events_below 0 start ≡ []
+pub events_below-first : (start : State) → events_below 0 start ≡ []
 unfolding events_below
 events_below-first start = refl
 
@@ -97,13 +97,14 @@ IsAt-next start s next event power was is status =
     }
 
 -- one event more is shown
+pub events_below-next : (start s next : State) (event : Event) → IsAt start s None → step_from s ≡ Some (event, next) → events_below next.step start ≡ events_below s.step start ++ event ∷ []
+events_below-next start s next event was is =
+    ap (λ k. events_below k start) ((step_from-IsStep s event next is).counted ∙ add-one s.step) ∙ events_below-suc s.step start ∙ ap (λ o. events_below s.step start ++ option_to_list o) (event_at-is s.step start s next event was.at is)
+
 pub seen_next : (start s next : State) (event : Event) (h : List Event) (seen seen' : List Event → Type 0) → IsAt start s None → step_from s ≡ Some (event, next) → ((l : List Event) → seen l → seen' (l ++ event ∷ []))
     → seen (h ++ events_below s.step start) → seen' (h ++ events_below next.step start)
 seen_next start s next event h seen seen' was is more so_far =
-    let n : next.step ≡ suc s.step = (step_from-IsStep s event next is).counted ∙ add-one s.step in
-    let shown : events_below next.step start ≡ events_below s.step start ++ event ∷ [] =
-    ap (λ k. events_below k start) n ∙ events_below-suc s.step start ∙ ap (λ o. events_below s.step start ++ option_to_list o) (event_at-is s.step start s next event was.at is) in
-    subst seen' (append_assoc h (events_below s.step start) (event ∷ []) ∙ ap (λ l. h ++ l) (sym shown)) (more (h ++ events_below s.step start) so_far)
+    subst seen' (append_assoc h (events_below s.step start) (event ∷ []) ∙ ap (λ l. h ++ l) (sym (events_below-next start s next event was is))) (more (h ++ events_below s.step start) so_far)
 
 -- the first step that ends elsewhere
 first_end-suc : (n : ℕ) (start : State) (item : Record) → first_end (suc n) start item ≡ option_or (first_end n start item) (cond (ends_at n start item) (Some n) None)

@@ -17,11 +17,11 @@ use Rattle.replayer.specs.Taking.{HasAdvanced}
 use Rattle.replayer.proofs.JudgeLaws.{and_true, judged}
 use Rattle.replayer.proofs.StepLaws.{IsAt-first}
 
-fault-none : (start : State) → first_fault_back start [] ≡ None
+pub fault-none : (start : State) → first_fault_back start [] ≡ None
 unfolding first_fault_back
 fault-none start = refl
 
-fault-more : (start : State) (item : Record) (before : List Record) → first_fault_back start (item ∷ before) ≡ fault_behind start before item (first_fault_back start before)
+pub fault-more : (start : State) (item : Record) (before : List Record) → first_fault_back start (item ∷ before) ≡ fault_behind start before item (first_fault_back start before)
 unfolding first_fault_back
 fault-more start item before = refl
 
@@ -43,7 +43,7 @@ fed_nothing start replay is zero_steps power last diverged = record {
 }
 
 -- a list that fits has executed its reach
-not_told : (o : Option Fault) → option_map told o ≡ None → o ≡ None
+pub not_told : (o : Option Fault) → option_map told o ≡ None → o ≡ None
 not_told None is = refl
 not_told (Some fault) is = cc
 
@@ -56,7 +56,7 @@ fault_of-behind start before item (Some fault) is =
     let no : ⊥ = cc in
     absurd no
 
-reach_is : (start : State) (before : List Record) → first_fault_back start before ≡ None → executed_back start before ≡ reach_back before
+pub reach_is : (start : State) (before : List Record) → first_fault_back start before ≡ None → executed_back start before ≡ reach_back before
 reach_is start [] fits = executed-none start
 reach_is start (last ∷ before) fits =
     let parts = fault_of-behind start before last (first_fault_back start before) (sym (fault-more start last before) ∙ fits) in

@@ -2,6 +2,7 @@
 #![tactic(auto)]
 
 mod diverged;
+mod law;
 mod order;
 mod place;
 mod replay;
@@ -10,4 +11,5 @@ mod running;
 mod tests;
 
 pub use diverged::{Diverged, Why};
+pub use law::log_fits;
 pub use replay::Replay;
