@@ -1,0 +1,4 @@
+pub mod Determinism
+pub mod JudgeLaws
+pub mod StepLaws
+pub mod TakeLaws
