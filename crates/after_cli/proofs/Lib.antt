@@ -1,7 +1,7 @@
 mod AnswerLaws
 mod CompleteLaws
 mod DefaultJob
+mod HandingLaws
 mod InputLaws
 mod ItemLoop
 mod JobLaws
-mod RunLoop

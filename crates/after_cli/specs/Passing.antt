@@ -1,19 +1,15 @@
--- What of an event goes out.
-use Rattle.std.specs.Prelude.{ℕ, Bool, List, [], ◌∷◌, map, if◌then◌else◌}
-use Rattle.run_events.specs.declared.event.Event.{Event}
+-- What of a run goes out.
+use Rattle.std.specs.Prelude.{ℕ, Bool, Option, List, [], ◌∷◌, map, if◌then◌else◌}
+use Rattle.std.specs.Option.{option_to_list}
 use Rattle.run_events.specs.declared.record.EndCause.{EndCause}
-use Rattle.machine_model.specs.Run.{Finished, output}
+use Rattle.machine_model.specs.Run.{Finished}
 use Rattle.analysis_model.specs.Job.{released_of}
 use Rattle.analysis_model.specs.Made.{kind_made_of, code_made_of}
 use Rattle.analysis_model.specs.Report.{Facts}
 
--- the byte that an event sends, if any
-abbrev pub sent : Event → List ℕ
-sent event = map (λ byte. byte.1) (output (event ∷ []))
-
--- the same, where no required analysis has refused a step up to the event's
-abbrev pub passed : Bool → Event → List ℕ
-passed refused event = if refused then [] else sent event
+-- what of an item's byte goes out: nothing where the analysis has refused its step or an earlier one
+abbrev pub goes_out : Bool → Option ℕ → List ℕ
+goes_out refused byte = if refused then [] else option_to_list byte
 
 -- the bytes of a run that an analysis of this make lets out
 abbrev pub released_bytes : List ℕ → Finished → List ℕ

@@ -5,8 +5,6 @@ mod command_words;
 mod guard_run;
 mod inputs;
 mod running;
-mod rv_devices;
-mod rv_machine;
 mod top;
 
 pub use top::{Outcome, aftersight_plain, end_with};

@@ -10,6 +10,9 @@ ghost use Rattle.analysis_model.specs.Made.{code_made_of, kind_made_of, make_of}
 ghost use Rattle.analysis_model.specs.Report.{head_text, part_text, text};
 ghost use Rattle.analysis_set.specs.Analysis.{HasSeen, kib_of, made_of};
 ghost use Rattle.analysis_set.specs.Head.{facts_of};
+ghost use Rattle.rv_machine.specs.declared.phase.Phase.TheVariants.{Running};
+ghost use Rattle.replayer.specs.Replays.{Replays};
+ghost use Rattle.after_cli.specs.Handing.{IsReady};
 ghost use Rattle.after_cli.specs.Job.{cover_job, run_status, run_text};
 ghost use Rattle.after_cli.specs.JobFault.{HasJobCause};
 
@@ -17,10 +20,11 @@ use crate::guard_run::run_through;
 use after_edge::{Failed, Sink};
 use analysis_set::{AnyAnalysis, RunFacts, report_head, report_part};
 use elf_image::read_flat;
+use gate_core::Hub;
 use memory_map::NoMemory;
+use replayer::Replay;
 use run_events::{EndCause, Kind};
-use rv_cpu::Cpu;
-use rv_memory::Ram;
+use rv_machine::Machine;
 use std::alloc::Global;
 
 /// Why a job gave no status of its own.
@@ -32,31 +36,43 @@ pub enum JobFault {
     OutputFailed,
 }
 
-// A guest that is ready to run: its hart at step 0, and the analysis that will look on.
+/// How many records the log holds at a time.
+const LOG_CAP: u32 = 1024;
+
+// A guest that is ready to run: its recorder, the log, a replica that knows only the log, and the analysis that will
+// look at the replica.
 #[derive(Drop)]
 struct Opened {
-    cpu: Cpu,
+    machine: Machine,
+    hub: Hub,
+    replay: Replay,
     analysis: AnyAnalysis,
 }
 
 // Opens a flat guest. It takes all the memory of the run.
-#[tactic(auto, unfolding(machine_model::specs::Image::ram_at_start))]
-fn open(alloc: Global, file: Vec<u8>, ram_kib: u32) -> Result<Opened, NoMemory>
+fn open(alloc: Global, file: Vec<u8>, ram_kib: u32, limit: u32) -> Result<Opened, NoMemory>
     requires least { 64 ≤ ram_kib }
     requires most { ram_kib ≤ 16384 }
     requires fits { length file.items ≤ 1024 * ram_kib }
-    ensures cpu { IfOk result (λ opened. opened.cpu ≡ started (flat_image file.items) ram_kib) }
-    ensures ram { IfOk result (λ opened. length opened.cpu.ram ≡ 1024 * ram_kib) }
+    requires steps { limit ≤ 1000000000 }
+    ensures machine { IfOk result (λ opened. opened.machine ≡ record { cpu = started (flat_image file.items) ram_kib; left = limit; phase = Running }) }
+    ensures hub { IfOk result (λ opened. IsReady opened.hub) }
+    ensures none { IfOk result (λ opened. opened.hub.appended ≡ 0) }
+    ensures replays { IfOk result (λ opened. Replays (started (flat_image file.items) ram_kib) [] opened.replay) }
+    ensures ram { IfOk result (λ opened. length opened.replay.cpu.ram ≡ 1024 * ram_kib) }
     ensures seen { IfOk result (λ opened. HasSeen opened.analysis []) }
     ensures size { IfOk result (λ opened. kib_of opened.analysis ≡ ram_kib) }
     ensures made { IfOk result (λ opened. made_of opened.analysis ≡ make_of Kind.Cover (flat_image file.items)) }
 {
     let image = read_flat(alloc, file)?;
-    let mut ram = Ram::new(alloc, ram_kib)?;
-    image.load_into(&mut ram);
+    let machine = Machine::new(alloc, &image, ram_kib, limit)?;
+    let hub = Hub::new(alloc, LOG_CAP, 1)?;
+    let replay = Replay::new(alloc, &image, ram_kib)?;
     let analysis = AnyAnalysis::new(alloc, Kind::Cover, &image, ram_kib)?;
     Ok(Opened {
-        cpu: Cpu::new(ram, image.entry),
+        machine,
+        hub,
+        replay,
         analysis,
     })
 }
@@ -91,17 +107,22 @@ fn status_number(end: EndCause, refused: bool) -> u8
 }
 
 // Runs an opened guest to its end and writes its report. It answers the status.
-fn run_opened<O: Sink>(opened: &mut Opened, limit: u32, out: &mut O) -> Result<u8, Failed>
-    requires steps { opened.old.cpu.step + limit ≤ 1000000000 }
-    requires size { length opened.old.cpu.ram ≡ 1024 * kib_of opened.old.analysis }
+fn run_opened<O: Sink>(opened: &mut Opened, out: &mut O) -> Result<u8, Failed>
+    requires running { opened.old.machine.phase ≡ Running }
+    requires first { opened.old.machine.cpu.step ≡ 0 }
+    requires steps { opened.old.machine.left ≤ 1000000000 }
+    requires hub { IsReady opened.old.hub }
+    requires none { opened.old.hub.appended ≡ 0 }
+    requires replays { Replays opened.old.machine.cpu [] opened.old.replay }
+    requires size { length opened.old.replay.cpu.ram ≡ 1024 * kib_of opened.old.analysis }
     requires seen { HasSeen opened.old.analysis [] }
-    ensures status { IfOk result (λ status. status ≡ run_status (made_of opened.old.analysis) (run_from limit opened.old.cpu)) }
-    ensures ok { OnOk result (Adds O.holds out.old out.new (run_text (made_of opened.old.analysis) (run_from limit opened.old.cpu))) }
-    ensures err { OnErr result (AddsPart O.holds out.old out.new (run_text (made_of opened.old.analysis) (run_from limit opened.old.cpu))) }
+    ensures status { IfOk result (λ status. status ≡ run_status (made_of opened.old.analysis) (run_from opened.old.machine.left opened.old.machine.cpu)) }
+    ensures ok { OnOk result (Adds O.holds out.old out.new (run_text (made_of opened.old.analysis) (run_from opened.old.machine.left opened.old.machine.cpu))) }
+    ensures err { OnErr result (AddsPart O.holds out.old out.new (run_text (made_of opened.old.analysis) (run_from opened.old.machine.left opened.old.machine.cpu))) }
     ensures cause { OnErr result (Rose (O.faults out.old) (O.faults out.new)) }
     ensures later { O.faults out.old ≤ O.faults out.new }
 {
-    let facts = match run_through(&mut opened.cpu, &mut opened.analysis, limit, out) {
+    let facts = match run_through(&mut opened.machine, &mut opened.hub, &mut opened.replay, &mut opened.analysis, out) {
         Ok(facts) => facts,
         Err(failed) => return Err(failed),
     };
@@ -130,11 +151,11 @@ pub fn run_job<O: Sink>(
     ensures cause { IfErr result (HasJobCause O.holds O.faults out.old out.new (text (cover_job file.items ram_kib limit))) }
     ensures later { O.faults out.old ≤ O.faults out.new }
 {
-    let mut opened = match open(alloc, file, ram_kib) {
+    let mut opened = match open(alloc, file, ram_kib, limit) {
         Ok(opened) => opened,
         Err(_) => return Err(JobFault::NoMemory),
     };
-    match run_opened(&mut opened, limit, out) {
+    match run_opened(&mut opened, out) {
         Ok(number) => Ok(number),
         Err(_) => Err(JobFault::OutputFailed),
     }

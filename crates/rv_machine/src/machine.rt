@@ -71,6 +71,7 @@ impl Machine {
         requires limit { limit ≤ 1000000000 }
         requires loadable { IsLoadable (1024 * ram_kib) image.now.segments }
         requires aligned { image.now.entry % 4 ≡ 0 }
+        ensures fresh { IfOk result (λ machine. machine ≡ record { cpu = started image.now ram_kib; left = limit; phase = Phase.Running }) }
         ensures items { IfOk result (λ machine. to_come machine ≡ items (run_from limit (started image.now ram_kib))) }
         ensures log { IfOk result (λ machine. map (λ item. item.item) (to_come machine) ≡ log (run_from limit (started image.now ram_kib))) }
         ensures output { IfOk result (λ machine. bytes_of (to_come machine) ≡ output (run_from limit (started image.now ram_kib)).events) }
