@@ -3,10 +3,12 @@ use Rattle.std.proofs.Common.{◌≡◌, ℕ, List, [], ◌∷◌, ◌++◌, sym
 use Rattle.run_events.specs.declared.event.Event.{Event}
 use Rattle.run_events.specs.declared.finding.Kind.TheVariants.{Cover}
 use Rattle.machine_model.specs.Image.{flat_image}
-use Rattle.machine_model.specs.State.{State, started}
+use Rattle.machine_model.specs.State.{started}
 use Rattle.machine_model.specs.Run.{run_from}
 use Rattle.analysis_model.specs.Made.{make_of, kind_made_of, code_made_of}
 use Rattle.analysis_model.specs.Report.{Facts, head_text, run_facts, part_text, text}
+use Rattle.rv_machine.specs.Recorder.{Recorder}
+use Rattle.rv_machine.specs.declared.phase.Phase.TheVariants.{Running}
 use Rattle.after_cli.specs.Passing.{released_bytes}
 use Rattle.after_cli.specs.Job.{cover_job, run_text}
 
@@ -17,8 +19,9 @@ text-cover_job file ram_kib limit =
     let run = run_from limit (started (flat_image file) ram_kib) in
     ap (λ l. released_bytes made run ++ (head_text (run_facts (code_made_of made) run (Cover ∷ [])) ++ l)) (append-nil (part_text (code_made_of made) run.events Cover))
 
-pub text_by_run : (file : List ℕ) (ram_kib limit : ℕ) (made : List ℕ) (s : State) → made ≡ make_of Cover (flat_image file) → s ≡ started (flat_image file) ram_kib → run_text made (run_from limit s) ≡ text (cover_job file ram_kib limit)
-text_by_run file ram_kib limit made s made_is started_is = (λ i. run_text (made_is i) (run_from limit (started_is i))) ∙ sym (text-cover_job file ram_kib limit)
+pub text_by_machine : (file : List ℕ) (ram_kib limit : ℕ) (made : List ℕ) (machine : Recorder) → made ≡ make_of Cover (flat_image file) → machine ≡ record { cpu = started (flat_image file) ram_kib; left = limit; phase = Running }
+    → run_text made (run_from machine.left machine.cpu) ≡ text (cover_job file ram_kib limit)
+text_by_machine file ram_kib limit made machine made_is machine_is = (λ i. run_text (made_is i) (run_from (machine_is i).left (machine_is i).cpu)) ∙ sym (text-cover_job file ram_kib limit)
 
 -- the same report from the same facts
 pub report_same : (made now : List ℕ) (h : List Event) (told facts : Facts) → told ≡ facts → now ≡ made

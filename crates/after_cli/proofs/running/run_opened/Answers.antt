@@ -12,7 +12,7 @@ use Rattle.after_cli.proofs.running.run_opened.Goals as goal
 pub returns-in-Err-report-clause-err : goal.returns-in-Err-report-clause-err
 returns-in-Err-report-clause-err g c =
     let made = made_of c.args.opened.now.analysis in
-    let run = run_from c.args.limit c.args.opened.now.cpu in
+    let run = run_from c.args.opened.now.machine.left c.args.opened.now.machine.cpu in
     let facts = run_facts (code_made_of made) run (kind_made_of made ∷ []) in
     AddsPart-then g.O.Sink.holds c.args.out.now c.run_through.new.out c.report.new.out (released_bytes made run) (head_text facts ++ part_text (code_made_of made) run.events (kind_made_of made)) c.in-Ok.ensures.ok
     (AddsPart-same g.O.Sink.holds c.run_through.new.out c.report.new.out
