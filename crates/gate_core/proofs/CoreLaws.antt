@@ -36,7 +36,8 @@ reach_falls [] h j k low = omega (arith, drop_from_none j, drop_from_none k)
 reach_falls (item ∷ before) h j zero low = falls_at_once item before j low
 reach_falls (item ∷ before) h zero (suc k) low =
     let below : 0 ≤ k = omega arith in
-    let rest : reach_back (drop k before) ≤ reach_back before = reach_falls before (both_right _ _ h) zero k below in
+    let rest_ordered : is_ordered_back before ≡ true = both_right (is_admitted before item) (is_ordered_back before) h in
+    let rest : reach_back (drop k before) ≤ reach_back before = reach_falls before rest_ordered zero k below in
     let last : reach_back before ≤ number item = last_is_largest item before h in
     omega arith
 reach_falls (item ∷ before) h (suc j) (suc k) low = reach_falls before (both_right _ _ h) j k (omega arith)

@@ -1,8 +1,9 @@
 -- What a hub holds, and what each call makes of it.
-use Rattle.std.specs.Prelude.{◌≡◌, ℕ, ◌+◌, ◌-◌, ◌≤◌, ◌<◌, ◌^◌, Bool, true, false, IsTrue, nat_lt, ◌==◌, if◌then◌else◌, List, [], ◌∷◌, ◌++◌, length, min, replicate, slice_index, slice_index_or, slice_set, slice_get, Option, Some, None, is_some, option_map}
-use Rattle.std.specs.List.{position}
+use Rattle.std.specs.Prelude.{◌≡◌, ℕ, ◌+◌, ◌-◌, ◌≤◌, ◌<◌, ◌^◌, Bool, true, false, IsTrue, nat_lt, ◌==◌, ◌||◌, if◌then◌else◌, List, [], ◌∷◌, ◌++◌, length, min, replicate, slice_index, slice_index_or, slice_set, slice_get, Option, Some, None, is_some, option_map}
+use Rattle.std.specs.List.{All, position}
 use Rattle.circular_buffer.specs.Buffer.{keep_last}
 use Rattle.run_events.specs.declared.record.Record.{Record}
+use Rattle.run_events.specs.Record.{IsRecord}
 use Rattle.gate_core.specs.declared.full.Full.{Full}
 use Rattle.gate_core.specs.declared.take.Take.{Take}
 use Rattle.gate_core.specs.declared.take.Take.TheVariants.{Got, Empty, Closed}
@@ -22,6 +23,12 @@ abbrev pub hub_state : ℕ → List Record → ℕ → List ℕ → List Verdict
 hub_state n items total counts posted ended =
     record { cap = n; stored = items; appended = total; taken = counts; verdicts = posted; closed = ended }
 
+-- the powers of two from 16 to 65,536
+abbrev pub is_cap : ℕ → Bool
+is_cap n =
+    n == 16 || n == 32 || n == 64 || n == 128 || n == 256 || n == 512 || n == 1024
+    || n == 2048 || n == 4096 || n == 8192 || n == 16384 || n == 32768 || n == 65536
+
 -- a reader has taken no more than there is, and no record that it has still to take was dropped
 abbrev pub IsWithin : ℕ → ℕ → ℕ → Type 0
 IsWithin n total count = (count ≤ total) × (total ≤ count + n)
@@ -32,6 +39,7 @@ pub record IsHub (h : HubState) : Type 0 where
   pub readers : length h.taken ≤ 8
   pub verdicts : length h.verdicts ≡ length h.taken
   pub stored : length h.stored ≡ min h.appended h.cap
+  pub records : All IsRecord h.stored
   pub appended : h.appended ≤ 2 ^ 62
   pub taken : (reader : ℕ) → reader < length h.taken → IsWithin h.cap h.appended (slice_index h.taken reader)
 
@@ -64,7 +72,7 @@ record_at h number = slice_get h.stored (length h.stored + number - h.appended)
 
 -- what a reader gets
 abbrev pub Gives : HubState → ℕ → Take → Type 0
-Gives h reader (Got item) = (slice_index h.taken reader < h.appended) × (record_at h (slice_index h.taken reader) ≡ Some item)
+Gives h reader (Got item) = (slice_index h.taken reader < h.appended) × (record_at h (slice_index h.taken reader) ≡ Some item) × IsRecord item
 Gives h reader (Empty head) = (slice_index h.taken reader ≡ h.appended) × (h.closed ≡ false) × (head ≡ h.appended)
 Gives h reader Closed = (slice_index h.taken reader ≡ h.appended) × (h.closed ≡ true)
 
