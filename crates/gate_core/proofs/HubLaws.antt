@@ -1,11 +1,10 @@
 -- What an append keeps.
-use Rattle.std.proofs.Common.{◌≡◌, ◌≢◌, ℕ, ◌+◌, ◌-◌, ◌<◌, ◌≤◌, Bool, IsTrue, true, false, not, cond, nat_eq, nat_lt, List, [], ◌∷◌, ◌++◌, length, min, slice_index, slice_index_or, Option, None, Some, option_map, arith, rules, refl, sym, ap, ◌∙◌, subst, slice_get, zero, suc}
-use Rattle.std.proofs.lemmas.Grind.{common_steps}
+use Rattle.std.proofs.Common.{◌≡◌, ℕ, ◌+◌, ◌-◌, ◌<◌, ◌≤◌, Bool, IsTrue, true, false, not, cond, nat_eq, nat_lt, List, [], ◌∷◌, ◌++◌, length, min, slice_index, slice_index_or, None, Some, option_map, arith, refl, sym, subst, slice_get, zero, suc}
 use Rattle.std.proofs.lemmas.List.{length-drop, length_push}
 use Rattle.std.proofs.lemmas.List.Sums.{prefix_len_passes}
 use Rattle.std.proofs.lemmas.List.Elements.{All-append, All-drop}
 use Rattle.std.proofs.lemmas.Option.{get_or_from_slice_get, slice_get_within}
-use Rattle.std.specs.List.{All, position, position_or_len}
+use Rattle.std.specs.List.{All, position_or_len}
 use Rattle.circular_buffer.specs.Buffer.{keep_last}
 use Rattle.run_events.specs.declared.record.Record.{Record}
 use Rattle.run_events.specs.Record.{IsRecord}

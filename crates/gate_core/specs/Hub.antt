@@ -1,5 +1,5 @@
 -- What a hub holds, and what each call makes of it.
-use Rattle.std.specs.Prelude.{◌≡◌, ℕ, ◌+◌, ◌-◌, ◌≤◌, ◌<◌, ◌^◌, Bool, true, false, IsTrue, nat_lt, ◌==◌, ◌||◌, if◌then◌else◌, List, [], ◌∷◌, ◌++◌, length, min, replicate, slice_index, slice_index_or, slice_set, slice_get, Option, Some, None, is_some, option_map}
+use Rattle.std.specs.Prelude.{◌≡◌, ℕ, ◌+◌, ◌-◌, ◌≤◌, ◌<◌, ◌^◌, Bool, true, false, nat_lt, ◌==◌, ◌||◌, if◌then◌else◌, List, [], ◌∷◌, ◌++◌, length, min, replicate, slice_index, slice_index_or, slice_set, slice_get, Option, Some, None, is_some, option_map}
 use Rattle.std.specs.List.{All, position}
 use Rattle.circular_buffer.specs.Buffer.{keep_last}
 use Rattle.run_events.specs.declared.record.Record.{Record}
@@ -62,9 +62,10 @@ full_of h = full_at h.taken h.appended h.cap
 
 -- after an append of this record: it stands behind the others, of which only the last stay; nothing where the log is full
 abbrev pub with_append : HubState → Record → HubState
-with_append h item =
-    if is_some (full_of h) then h
-    else hub_state h.cap (keep_last h.cap (h.stored ++ item ∷ [])) (h.appended + 1) h.taken h.verdicts h.closed
+with_append h item = record h {
+  stored = (if is_some (full_of h) then h.stored else keep_last h.cap (h.stored ++ item ∷ []));
+  appended = (if is_some (full_of h) then h.appended else h.appended + 1);
+}
 
 -- the record with this number, where it is stored
 abbrev pub record_at : HubState → ℕ → Option Record
@@ -78,10 +79,9 @@ Gives h reader Closed = (slice_index h.taken reader ≡ h.appended) × (h.closed
 
 -- after a reader took its next record, where there was one
 abbrev pub with_take : HubState → ℕ → HubState
-with_take h reader =
-    if nat_lt (slice_index h.taken reader) h.appended
-    then hub_state h.cap h.stored h.appended (slice_set h.taken reader (slice_index h.taken reader + 1)) h.verdicts h.closed
-    else h
+with_take h reader = record h {
+  taken = (if nat_lt (slice_index h.taken reader) h.appended then slice_set h.taken reader (slice_index h.taken reader + 1) else h.taken);
+}
 
 -- what a reader posted last
 abbrev pub verdict_at : HubState → ℕ → Verdict
