@@ -1,5 +1,5 @@
 -- Every event of the core keeps a sound state sound.
-use Rattle.std.proofs.Common.{◌≡◌, ℕ, ◌+◌, ◌-◌, ◌<◌, ◌≤◌, ◌⊎◌, inl, inr, Bool, true, false, not, ◌&&◌, ◌||◌, ◌==◌, cond, nat_eq, nat_lt, List, [], ◌∷◌, ◌++◌, length, take, drop, reverse, min, slice_index, slice_set, arith, rules, refl, sym, ap, subst, ◌∙◌, zero, suc}
+use Rattle.std.proofs.Common.{◌≡◌, ℕ, ◌+◌, ◌-◌, ◌<◌, ◌≤◌, inl, inr, Bool, true, false, ◌&&◌, ◌||◌, nat_eq, nat_lt, List, [], ◌∷◌, ◌++◌, length, take, drop, reverse, slice_index, slice_set, arith, refl, sym, ap, subst, ◌∙◌, zero, suc}
 use Rattle.std.proofs.lemmas.List.{length-drop, length-reverse, length-replicate, length-set, reverse-append, take-append-drop, drop_at, get_or-replicate}
 use Rattle.std.proofs.lemmas.Bool.{cases_lt}
 use Rattle.run_events.specs.declared.record.Record.{Record}
@@ -36,7 +36,8 @@ reach_falls [] h j k low = omega (arith, drop_from_none j, drop_from_none k)
 reach_falls (item ∷ before) h j zero low = falls_at_once item before j low
 reach_falls (item ∷ before) h zero (suc k) low =
     let below : 0 ≤ k = omega arith in
-    let rest : reach_back (drop k before) ≤ reach_back before = reach_falls before (both_right _ _ h) zero k below in
+    let rest_ordered : is_ordered_back before ≡ true = both_right (is_admitted before item) (is_ordered_back before) h in
+    let rest : reach_back (drop k before) ≤ reach_back before = reach_falls before rest_ordered zero k below in
     let last : reach_back before ≤ number item = last_is_largest item before h in
     omega arith
 reach_falls (item ∷ before) h (suc j) (suc k) low = reach_falls before (both_right _ _ h) j k (omega arith)

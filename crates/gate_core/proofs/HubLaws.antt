@@ -1,13 +1,15 @@
 -- What an append keeps.
-use Rattle.std.proofs.Common.{◌≡◌, ◌≢◌, ℕ, ◌+◌, ◌-◌, ◌<◌, ◌≤◌, Bool, true, false, not, cond, nat_eq, nat_lt, List, [], ◌∷◌, ◌++◌, length, min, slice_index, slice_index_or, Option, None, Some, option_map, arith, rules, refl, sym, ap, ◌∙◌}
-use Rattle.std.proofs.lemmas.Grind.{common_steps}
+use Rattle.std.proofs.Common.{◌≡◌, ℕ, ◌+◌, ◌-◌, ◌<◌, ◌≤◌, Bool, IsTrue, true, false, not, cond, nat_eq, nat_lt, List, [], ◌∷◌, ◌++◌, length, min, slice_index, slice_index_or, None, Some, option_map, arith, refl, sym, subst, slice_get, zero, suc}
 use Rattle.std.proofs.lemmas.List.{length-drop, length_push}
 use Rattle.std.proofs.lemmas.List.Sums.{prefix_len_passes}
-use Rattle.std.specs.List.{position, position_or_len}
+use Rattle.std.proofs.lemmas.List.Elements.{All-append, All-drop}
+use Rattle.std.proofs.lemmas.Option.{get_or_from_slice_get, slice_get_within}
+use Rattle.std.specs.List.{All, position_or_len}
 use Rattle.circular_buffer.specs.Buffer.{keep_last}
 use Rattle.run_events.specs.declared.record.Record.{Record}
+use Rattle.run_events.specs.Record.{IsRecord}
 use Rattle.gate_core.specs.declared.verdict.Verdict.{Verdict}
-use Rattle.gate_core.specs.Hub.{IsHub, IsWithin, hub_state, full_at}
+use Rattle.gate_core.specs.Hub.{IsHub, IsWithin, hub_state, full_at, is_cap}
 
 -- no place before the first one passes
 pub none_before : {X : Type 0} (p : X → Bool) (xs : List X) (k : ℕ) (d : X) → k < position_or_len p xs → p (slice_index_or xs k d) ≡ false
@@ -43,15 +45,29 @@ stored_more n total items item was =
     let left : length (keep_last n (items ++ item ∷ [])) ≡ length (items ++ item ∷ []) - (length (items ++ item ∷ []) - n) = length-drop _ _ in
     omega arith
 
+-- what is stored stays within what there is a spelling for
+only_records : (n : ℕ) (items : List Record) (item : Record) → All IsRecord items → IsRecord item → All IsRecord (keep_last n (items ++ item ∷ []))
+only_records n items item was new =
+    let one : All IsRecord (item ∷ []) = λ k d low. elim k as (λ j. j < 1 → IsRecord (slice_index_or (item ∷ []) j d)) [ zero ↦ λ _. new | suc j ↦ λ below. absurd (omega arith) ] low in
+    All-drop IsRecord (length (items ++ item ∷ []) - n) (items ++ item ∷ []) (All-append IsRecord items (item ∷ []) was one)
+
+-- a record that is found among such is such a one
+pub stored_record : (items : List Record) (place : ℕ) (item : Record) → All IsRecord items → slice_get items place ≡ Some item → IsRecord item
+stored_record items place item all here = subst IsRecord (get_or_from_slice_get items place item item here) (all place item (slice_get_within items place item here))
+
+pub cap_bound : (n : ℕ) → IsTrue (is_cap n) → n ≤ 65536
+cap_bound n h = grind arith
+
 -- an append keeps what is true of every hub
 pub append-IsHub : (n total : ℕ) (items : List Record) (counts : List ℕ) (posted : List Verdict) (ended : Bool) (item : Record)
-    → IsHub (hub_state n items total counts posted ended) → total < 4611686018427387904 → None ≡ full_at counts total n
+    → IsHub (hub_state n items total counts posted ended) → total < 4611686018427387904 → None ≡ full_at counts total n → IsRecord item
     → IsHub (hub_state n (keep_last n (items ++ item ∷ [])) (total + 1) counts posted ended)
-append-IsHub n total items counts posted ended item was few none = record {
+append-IsHub n total items counts posted ended item was few none new = record {
   cap = was.cap;
   readers = was.readers;
   verdicts = was.verdicts;
   stored = stored_more n total items item was.stored;
+  records = only_records n items item was.records new;
   appended = omega arith;
   taken = λ reader low. room_left counts total n none reader low (was.taken reader low);
 }

@@ -1,8 +1,9 @@
 -- What a hub holds, and what each call makes of it.
-use Rattle.std.specs.Prelude.{◌≡◌, ℕ, ◌+◌, ◌-◌, ◌≤◌, ◌<◌, ◌^◌, Bool, true, false, IsTrue, nat_lt, ◌==◌, if◌then◌else◌, List, [], ◌∷◌, ◌++◌, length, min, replicate, slice_index, slice_index_or, slice_set, slice_get, Option, Some, None, is_some, option_map}
-use Rattle.std.specs.List.{position}
+use Rattle.std.specs.Prelude.{◌≡◌, ℕ, ◌+◌, ◌-◌, ◌≤◌, ◌<◌, ◌^◌, Bool, true, false, nat_lt, ◌==◌, ◌||◌, if◌then◌else◌, List, [], ◌∷◌, ◌++◌, length, min, replicate, slice_index, slice_index_or, slice_set, slice_get, Option, Some, None, is_some, option_map}
+use Rattle.std.specs.List.{All, position}
 use Rattle.circular_buffer.specs.Buffer.{keep_last}
 use Rattle.run_events.specs.declared.record.Record.{Record}
+use Rattle.run_events.specs.Record.{IsRecord}
 use Rattle.gate_core.specs.declared.full.Full.{Full}
 use Rattle.gate_core.specs.declared.take.Take.{Take}
 use Rattle.gate_core.specs.declared.take.Take.TheVariants.{Got, Empty, Closed}
@@ -22,6 +23,12 @@ abbrev pub hub_state : ℕ → List Record → ℕ → List ℕ → List Verdict
 hub_state n items total counts posted ended =
     record { cap = n; stored = items; appended = total; taken = counts; verdicts = posted; closed = ended }
 
+-- the powers of two from 16 to 65,536
+abbrev pub is_cap : ℕ → Bool
+is_cap n =
+    n == 16 || n == 32 || n == 64 || n == 128 || n == 256 || n == 512 || n == 1024
+    || n == 2048 || n == 4096 || n == 8192 || n == 16384 || n == 32768 || n == 65536
+
 -- a reader has taken no more than there is, and no record that it has still to take was dropped
 abbrev pub IsWithin : ℕ → ℕ → ℕ → Type 0
 IsWithin n total count = (count ≤ total) × (total ≤ count + n)
@@ -32,6 +39,7 @@ pub record IsHub (h : HubState) : Type 0 where
   pub readers : length h.taken ≤ 8
   pub verdicts : length h.verdicts ≡ length h.taken
   pub stored : length h.stored ≡ min h.appended h.cap
+  pub records : All IsRecord h.stored
   pub appended : h.appended ≤ 2 ^ 62
   pub taken : (reader : ℕ) → reader < length h.taken → IsWithin h.cap h.appended (slice_index h.taken reader)
 
@@ -54,9 +62,10 @@ full_of h = full_at h.taken h.appended h.cap
 
 -- after an append of this record: it stands behind the others, of which only the last stay; nothing where the log is full
 abbrev pub with_append : HubState → Record → HubState
-with_append h item =
-    if is_some (full_of h) then h
-    else hub_state h.cap (keep_last h.cap (h.stored ++ item ∷ [])) (h.appended + 1) h.taken h.verdicts h.closed
+with_append h item = record h {
+  stored = (if is_some (full_of h) then h.stored else keep_last h.cap (h.stored ++ item ∷ []));
+  appended = (if is_some (full_of h) then h.appended else h.appended + 1);
+}
 
 -- the record with this number, where it is stored
 abbrev pub record_at : HubState → ℕ → Option Record
@@ -64,16 +73,15 @@ record_at h number = slice_get h.stored (length h.stored + number - h.appended)
 
 -- what a reader gets
 abbrev pub Gives : HubState → ℕ → Take → Type 0
-Gives h reader (Got item) = (slice_index h.taken reader < h.appended) × (record_at h (slice_index h.taken reader) ≡ Some item)
+Gives h reader (Got item) = (slice_index h.taken reader < h.appended) × (record_at h (slice_index h.taken reader) ≡ Some item) × IsRecord item
 Gives h reader (Empty head) = (slice_index h.taken reader ≡ h.appended) × (h.closed ≡ false) × (head ≡ h.appended)
 Gives h reader Closed = (slice_index h.taken reader ≡ h.appended) × (h.closed ≡ true)
 
 -- after a reader took its next record, where there was one
 abbrev pub with_take : HubState → ℕ → HubState
-with_take h reader =
-    if nat_lt (slice_index h.taken reader) h.appended
-    then hub_state h.cap h.stored h.appended (slice_set h.taken reader (slice_index h.taken reader + 1)) h.verdicts h.closed
-    else h
+with_take h reader = record h {
+  taken = (if nat_lt (slice_index h.taken reader) h.appended then slice_set h.taken reader (slice_index h.taken reader + 1) else h.taken);
+}
 
 -- what a reader posted last
 abbrev pub verdict_at : HubState → ℕ → Verdict

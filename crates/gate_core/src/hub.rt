@@ -1,9 +1,8 @@
-ghost use Rattle.std.specs.Prelude.{◌≡◌, ◌<◌, ◌≤◌, ◌^◌, ◌==◌, IsTrue, false, length, slice_index, IfOk, option_copied, slice_get};
-ghost use Rattle.std.specs.Int.{is_power_of_two};
+ghost use Rattle.std.specs.Prelude.{◌≡◌, ◌<◌, ◌≤◌, ◌^◌, ◌==◌, IsTrue, false, length, slice_index, IfOk};
 ghost use Rattle.std.specs.List.{position_or_len};
 ghost use Rattle.std.specs.Result.{result_err};
 ghost use Rattle.run_events.specs.Record.{IsRecord};
-ghost use Rattle.gate_core.specs.Hub.{IsHub, Gives, approved_at, empty_hub, full_at, full_of, with_append, with_close, with_take, with_verdict, verdict_at};
+ghost use Rattle.gate_core.specs.Hub.{IsHub, Gives, approved_at, empty_hub, full_at, full_of, with_append, with_close, with_take, with_verdict, verdict_at, is_cap};
 
 use crate::{Full, Take, Verdict};
 use circular_buffer::HeapCircularBuffer;
@@ -25,7 +24,7 @@ pub struct Hub {
 
 impl Model for Hub {
     ghost use Rattle.gate_core.specs.Hub.{HubState, IsHub, hub_state};
-    ghost use Rattle.std.specs.Prelude.{◌≡◌, length, vec_len};
+    ghost use Rattle.std.specs.Prelude.{◌≡◌};
 
     ghost Value = { HubState };
 
@@ -36,10 +35,9 @@ impl Model for Hub {
 
 impl Hub {
     /// An open log that holds the last `cap` records, and reserves their places, so that an append takes no memory.
+    #[tactic(auto, using(crate::proofs::HubLaws::cap_bound))]
     pub fn new(alloc: Global, cap: u32, readers: u32) -> Result<Hub, NoMemory>
-        requires power { IsTrue (is_power_of_two cap) }
-        requires low { 16 ≤ cap }
-        requires high { cap ≤ 65536 }
+        requires cap { IsTrue (is_cap cap) }
         requires some { 1 ≤ readers }
         requires few { readers ≤ 8 }
         ensures { IfOk result (λ hub. hub ≡ empty_hub cap readers) }
@@ -79,6 +77,7 @@ impl Hub {
     }
 
     /// Takes the reader's next record, where there is one.
+    #[tactic(auto, using(crate::proofs::HubLaws::stored_record))]
     pub fn take(&mut self, reader: u32) -> Take
         requires { reader < length self.old.taken }
         ensures gives { Gives self.old reader result }

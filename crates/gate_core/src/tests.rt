@@ -8,9 +8,11 @@ fn two_readers_of_sixteen_places(rt: HostRuntime) -> io::Result<()> {
     let mut hub = Hub::new(rt.alloc(), 16, 2)?;
     assert_eq!(rt; hub.take(0), Take::Empty { head: 0 }, "nothing is there");
     for step in 0..16u32 {
+        assert!(rt; !hub.is_closed() && hub.appended() <= 16);
         assert_eq!(rt; hub.append(Record::Reach { step }), Ok(()), "at {step}");
     }
     let last = Record::Reach { step: 16 };
+    assert!(rt; !hub.is_closed() && hub.appended() == 16);
     assert_eq!(rt;
         hub.append(last),
         Err(Full {

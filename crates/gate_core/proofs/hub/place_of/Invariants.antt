@@ -1,4 +1,4 @@
-use Rattle.std.proofs.Common.{◌≡◌, ◌<◌, ◌≤◌, false, length, slice_index, ℕ, nat_eq, nat_lt}
+use Rattle.std.proofs.Common.{◌≡◌, ◌<◌, false, slice_index, ℕ, nat_eq}
 use Rattle.gate_core.proofs.hub.place_of.Given as goal
 
 abbrev pub invariant-loop-place : goal.invariant-loop-place
