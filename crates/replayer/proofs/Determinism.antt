@@ -4,7 +4,10 @@ use Rattle.std.specs.Prelude.{is_some}
 use Rattle.std.specs.List.{flat_map}
 use mathlib.Core.List.{reverse_aux}
 use Rattle.list_laws.specs.Prefix.{IsPrefix}
-use Rattle.list_laws.proofs.PrefixLaws.{whole_IsPrefix}
+use Rattle.list_laws.proofs.PrefixLaws.{whole_IsPrefix, IsPrefix-more}
+use Rattle.std.proofs.Common.{length, take, length-append}
+use Rattle.std.proofs.Math.Seq.{take-append_seam}
+use Rattle.std.specs.Option.{option_to_list}
 use Rattle.run_events.specs.declared.event.Event.{Event}
 use Rattle.run_events.specs.declared.record.EndCause.{EndCause}
 use Rattle.run_events.specs.declared.record.EndCause.TheVariants.{Power, Limit, Stuck}
@@ -15,12 +18,12 @@ use Rattle.run_events.specs.Record.{number, rank, is_dma, dmas_at, is_admitted, 
 use Rattle.machine_model.specs.State.{State}
 use Rattle.machine_model.specs.Step.{step_from}
 use Rattle.machine_model.specs.Run.{Finished, run_from, records_of, log, power_status, serial_byte}
-use Rattle.machine_model.specs.Replay.{first_fault_back, first_fault, fault_of, fault_behind, events_below, shown, is_after_power}
+use Rattle.machine_model.specs.Replay.{StepFalls, elsewhere, first_end, event_at, is_stuck, first_fault_back, first_fault, fault_of, fault_behind, events_below, shown, is_after_power}
 use Rattle.machine_model.proofs.RunLaws.{step_from-IsStep, run_from-limit, run_from-stuck, run_from-power, run_from-goes}
 use Rattle.replayer.specs.Place.{place, end_place}
 use Rattle.replayer.specs.Replays.{IsAt}
-use Rattle.replayer.proofs.StepLaws.{IsAt-first, IsAt-next, events_below-first, events_below-next}
-use Rattle.replayer.proofs.TakeLaws.{fault-none, fault-more, not_told, advanced_on, reach_is}
+use Rattle.replayer.proofs.StepLaws.{IsAt-first, IsAt-next, built_below, events_below-first, events_below-next, events_below-suc}
+use Rattle.replayer.proofs.TakeLaws.{fault-none, fault-more, fault_of-behind, admitted_long, not_told, advanced_on, reach_is}
 
 -- a list of marks so far, of which the last has at most this number
 abbrev IsMarked : List Record → ℕ → Type 0
@@ -199,3 +202,92 @@ whole_shown start zero_steps limit =
     shown_fits start (log run) (each_front_fits start zero_steps limit (log run) (whole_IsPrefix (log run)))
     ∙ ap (λ n. events_below n start) (reach_end (flat_map records_of run.events) [] run.steps run.cause)
     ∙ sym (run_events start zero_steps limit)
+
+-- a front reaches no further than the whole
+admitted_if : (start : State) (back : List Record) (item : Record) (b : Bool) → is_admitted back item ≡ b → fault_of start back item ≡ None → b ≡ true
+admitted_if start back item true is none = refl
+admitted_if start back item false is none =
+    let falls : fault_of start back item ≡ Some (StepFalls (number item)) = ap (λ t. cond t (elsewhere start item (first_end (number item) start item)) (Some (StepFalls (number item)))) is in
+    let no : Some (StepFalls (number item)) ≡ None = sym falls ∙ none in
+    cc
+
+head_fits : (start : State) (items back : List Record) → FitsOn start items back → first_fault_back start back ≡ None
+head_fits start [] back fits = fits
+head_fits start (item ∷ items) back fits = fits.0
+
+reach_rises : (start : State) (items back : List Record) → FitsOn start items back → reach_back back ≤ reach_back (reverse_aux items back)
+reach_rises start [] back fits = omega arith
+reach_rises start (item ∷ items) back fits =
+    let here = fault_of-behind start back item (first_fault_back start back) (sym (fault-more start item back) ∙ head_fits start items (item ∷ back) fits.1) in
+    let admitted : is_admitted back item ≡ true = admitted_if start back item (is_admitted back item) refl here.1 in
+    omega (arith, admitted_long back item admitted, reach_rises start items (item ∷ back) fits.1)
+
+front_reach : (start : State) (front rest back : List Record) → FitsOn start (front ++ rest) back → reach_back (reverse_aux front back) ≤ reach_back (reverse_aux (front ++ rest) back)
+front_reach start [] rest back fits = reach_rises start rest back fits
+front_reach start (item ∷ front) rest back fits = front_reach start front rest (item ∷ back) fits.1
+
+-- the first events of a run
+record RunEnds (start : State) (run : Finished) : Type 0 where
+  s : State
+  power : Option ℕ
+  at : IsAt start s power
+  steps : run.steps ≡ s.step
+
+ends_here : (start s : State) (left : ℕ) (cause : EndCause) → IsAt start s None → run_from left s ≡ record { events = []; steps = s.step; cause = cause } → RunEnds start (run_from left s)
+ends_here start s left cause at is = record { s = s; power = None; at = at; steps = ap (λ (run : Finished). run.steps) is }
+
+ends_by_status : (start s next : State) (event : Event) (left : ℕ) → IsAt start s None → step_from s ≡ Some (event, next) → ((at : IsAt start next None) → RunEnds start (run_from left next)) → (o : Option ℕ) → power_status event ≡ o → RunEnds start (run_from (suc left) s)
+ends_by_status start s next event left at is later (Some status) power = record {
+  s = next;
+  power = Some status;
+  at = IsAt-next start s next event (Some status) at is (sym power);
+  steps = ap (λ (run : Finished). run.steps) (run_from-power left s next event status is power);
+}
+ends_by_status start s next event left at is later None power =
+    let ends = later (IsAt-next start s next event None at is (sym power)) in
+    record { s = ends.s; power = ends.power; at = ends.at; steps = ap (λ (run : Finished). run.steps) (run_from-goes left s next event is power) ∙ ends.steps }
+
+ends_by_step : (start s : State) (left : ℕ) → IsAt start s None → ((next : State) → IsAt start next None → RunEnds start (run_from left next)) → (o : Option (Event × State)) → step_from s ≡ o → RunEnds start (run_from (suc left) s)
+ends_by_step start s left at later None is = ends_here start s (suc left) Stuck at (run_from-stuck left s is)
+ends_by_step start s left at later (Some (event, next)) is = ends_by_status start s next event left at is (later next) (power_status event) refl
+
+run_ends : (start : State) (left : ℕ) (s : State) → IsAt start s None → RunEnds start (run_from left s)
+run_ends start zero s at = ends_here start s 0 Limit at (run_from-limit s)
+run_ends start (suc left) s at = ends_by_step start s left at (run_ends start left) (step_from s) refl
+
+one_event : (o : Option Event) → not (is_some o) ≡ false → length (option_to_list o) ≡ 1
+one_event None is = cc
+one_event (Some event) is = refl
+
+below_length : (start : State) (n : ℕ) → ((k : ℕ) → k < n → is_stuck k start ≡ false) → length (events_below n start) ≡ n
+below_length start zero built = ap length (events_below-first start)
+below_length start (suc n) built =
+    omega (arith, ap length (events_below-suc n start), length-append (events_below n start) (option_to_list (event_at n start)), one_event (event_at n start) (built n (omega arith)), below_length start n (λ k lt. built k (omega (arith, lt))))
+
+front_by_test : (start : State) (m n : ℕ) → n ≤ suc m → (n ≤ m → IsPrefix (events_below n start) (events_below m start)) → (t : Bool) → nat_lt m n ≡ t → IsPrefix (events_below n start) (events_below (suc m) start)
+front_by_test start m n le before true is =
+    let eq : n ≡ suc m = grind (arith, le, is) in
+    subst (λ k. IsPrefix (events_below k start) (events_below (suc m) start)) (sym eq) (whole_IsPrefix (events_below (suc m) start))
+front_by_test start m n le before false is =
+    let low : n ≤ m = grind (arith, is) in
+    subst (IsPrefix (events_below n start)) (sym (events_below-suc m start)) (IsPrefix-more (option_to_list (event_at m start)) (before low))
+
+below_front : (start : State) (m n : ℕ) → n ≤ m → IsPrefix (events_below n start) (events_below m start)
+below_front start zero n le =
+    let is : n ≡ 0 = omega (arith, le) in
+    subst (λ k. IsPrefix (events_below k start) (events_below 0 start)) (sym is) (whole_IsPrefix (events_below 0 start))
+below_front start (suc m) n le = front_by_test start m n le (below_front start m n) (nat_lt m n) refl
+
+pub front_shown : (start : State) → start.step ≡ 0 → (limit : ℕ) (front : List Record) → IsPrefix front (log (run_from limit start)) → shown start front ≡ take (reach front) (run_from limit start).events
+front_shown start zero_steps limit front is =
+    let run = run_from limit start in
+    let at = IsAt-first start start refl zero_steps in
+    let fits = subst (λ l. FitsOn start l []) (sym is.joined) (log_fits start limit start at [] (fault-none start) tt) in
+    let ends = run_ends start limit start at in
+    let whole : reach (front ++ is.rest) ≡ run.steps = ap reach is.joined ∙ reach_end (flat_map records_of run.events) [] run.steps run.cause in
+    let le : reach front ≤ run.steps = omega (arith, front_reach start front is.rest [] fits, whole) in
+    let built : (k : ℕ) → k < reach front → is_stuck k start ≡ false = λ k lt. built_below ends.s.step start ends.s ends.at.at k (omega (arith, lt, le, ends.steps)) in
+    let long : length (events_below (reach front) start) ≡ reach front = below_length start (reach front) built in
+    let more = below_front start run.steps (reach front) le in
+    shown_fits start front (each_front_fits start zero_steps limit front is)
+    ∙ sym (ap (λ l. take (reach front) l) (run_events start zero_steps limit ∙ sym more.joined) ∙ ap (λ n. take n (events_below (reach front) start ++ more.rest)) (sym long) ∙ take-append_seam (events_below (reach front) start) more.rest)

@@ -24,7 +24,7 @@ pub events_below-first : (start : State) → events_below 0 start ≡ []
 unfolding events_below
 events_below-first start = refl
 
-events_below-suc : (k : ℕ) (start : State) → events_below (suc k) start ≡ events_below k start ++ option_to_list (event_at k start)
+pub events_below-suc : (k : ℕ) (start : State) → events_below (suc k) start ≡ events_below k start ++ option_to_list (event_at k start)
 unfolding events_below
 events_below-suc k start = refl
 

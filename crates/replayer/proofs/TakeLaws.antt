@@ -50,7 +50,7 @@ not_told (Some fault) is = cc
 pub fits_so_far : (start : State) (before : List Record) (replay : Replay) → Replays start before replay → replay.diverged ≡ None → first_fault_back start before ≡ None
 fits_so_far start before replay was none = not_told (first_fault_back start before) (sym was.fault ∙ none)
 
-fault_of-behind : (start : State) (before : List Record) (item : Record) (o : Option Fault) → fault_behind start before item o ≡ None → (o ≡ None) × (fault_of start before item ≡ None)
+pub fault_of-behind : (start : State) (before : List Record) (item : Record) (o : Option Fault) → fault_behind start before item o ≡ None → (o ≡ None) × (fault_of start before item ≡ None)
 fault_of-behind start before item None is = (refl, is)
 fault_of-behind start before item (Some fault) is =
     let no : ⊥ = cc in
@@ -72,7 +72,7 @@ by_test a b c false test is =
     let eq = (and_true (a == b) c is).0 in
     grind (arith, eq)
 
-admitted_long : (before : List Record) (item : Record) → is_admitted before item ≡ true → reach_back before ≤ number item
+pub admitted_long : (before : List Record) (item : Record) → is_admitted before item ≡ true → reach_back before ≤ number item
 admitted_long [] item is = omega arith
 admitted_long (last ∷ before) item is =
     by_test (number last) (number item) (nat_lt (rank last) (rank item) || (is_dma last && (is_dma item && nat_lt (dmas_at (number item) (last ∷ before)) 128))) (nat_lt (number last) (number item)) refl
