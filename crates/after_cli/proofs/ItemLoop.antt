@@ -1,9 +1,8 @@
 -- The loop over a recorder's items: what holds after each of them, and at the end.
-use Rattle.std.proofs.Common.{◌≡◌, ◌⊎◌, inl, inr, ⊎_elim, ℕ, zero, suc, ◌+◌, ◌-◌, ◌<◌, ◌≤◌, Bool, true, false, cond, List, [], ◌∷◌, ◌++◌, length, take, drop, map, reverse, Option, Some, None, Result, Ok, Err, refl, sym, ap, subst, ◌∙◌, arith, append-nil, append_assoc, length-append, take-append-drop}
+use Rattle.std.proofs.Common.{◌≡◌, ℕ, zero, suc, ◌+◌, ◌-◌, ◌≤◌, Bool, true, false, cond, List, [], ◌∷◌, ◌++◌, length, take, drop, map, Option, Some, None, Result, Ok, Err, refl, sym, ap, subst, ◌∙◌, arith, append-nil, append_assoc, length-append, take-append-drop}
 use Rattle.std.specs.Prelude.{MatchOption, not, nat_lt, ◌||◌, ◌%◌, ◌==◌, is_some}
 use Rattle.std.specs.Option.{option_map, option_to_list}
-use Rattle.std.specs.List.{flat_map, filter, filter_map, cons_option, AllByRecursion}
-use Rattle.std.proofs.lemmas.Grind.{flat_map-append}
+use Rattle.std.specs.List.{flat_map, cons_option, AllByRecursion}
 use Rattle.std.proofs.lemmas.List.{map-append, length-map}
 use Rattle.std.proofs.lemmas.List.Elements.{filter-append, filter_map-append}
 use Rattle.run_events.specs.declared.event.Event.{Event}
@@ -13,9 +12,9 @@ use Rattle.run_events.specs.declared.record.EndCause.TheVariants.{Power}
 use Rattle.machine_model.specs.Step.{step_from}
 use Rattle.analysis_model.specs.Made.{kind_made_of, code_made_of}
 use Rattle.run_events.specs.declared.record.Record.{Record}
-use Rattle.run_events.specs.declared.record.Record.TheVariants.{Load, Lines, Dma, Reach, End}
+use Rattle.run_events.specs.declared.record.Record.TheVariants.{Reach, End}
 use Rattle.run_events.specs.Event.{step_of}
-use Rattle.run_events.specs.Record.{number, reach_back}
+use Rattle.run_events.specs.Record.{number}
 use Rattle.machine_model.specs.Items.{Item, items_behind, items, byte_of, bytes_of}
 use Rattle.machine_model.specs.Run.{Finished, output, serial_byte, power_status}
 use Rattle.machine_model.specs.State.{State}
@@ -96,7 +95,7 @@ ends_list : (start : State) (before : List Record) (n : ℕ) (cause : EndCause) 
 ends_list start before n cause [] fits = refl
 ends_list start before n cause (i ∷ rest) fits =
     absurd (behind_end start before n cause i.item (FitsOn-here start (End n cause ∷ before) (map (λ (i : Item). i.item) (i ∷ rest)) fits)
-      (FitsOn-here start (i.item ∷ End n cause ∷ before) (map (λ (i : Item). i.item) rest) (FitsOn-tail start (End n cause ∷ before) (map (λ (i : Item). i.item) rest) i.item fits)))
+    (FitsOn-here start (i.item ∷ End n cause ∷ before) (map (λ (i : Item). i.item) rest) (FitsOn-tail start (End n cause ∷ before) (map (λ (i : Item). i.item) rest) i.item fits)))
 
 -- the last item
 last_item : List Item → Item → Item
@@ -239,9 +238,9 @@ module _ (code : List Span) (kind : Kind) (limit : ℕ) (start : State) (i : Ite
       let stop = least_refused code run (kind ∷ []) in
       let all : items run ≡ (way.given ++ i ∷ []) ++ rest = way.all ∙ ap (λ l. way.given ++ l) is ∙ sym (append_assoc way.given (i ∷ []) rest) in
       let whole : map (λ (byte : ℕ × ℕ). byte.1) (released_of code run (kind ∷ [])) ≡ let_out code kind run (way.given ++ i ∷ []) ++ let_out code kind run rest =
-        ap (λ l. map (λ (byte : ℕ × ℕ). byte.1) (before_step stop l)) (sym (items-output run) ∙ ap bytes_of all ∙ filter_map-append byte_of (way.given ++ i ∷ []) rest)
-        ∙ ap (map (λ (byte : ℕ × ℕ). byte.1)) (filter-append (λ (byte : ℕ × ℕ). nat_lt byte.0 stop) (bytes_of (way.given ++ i ∷ [])) (bytes_of rest))
-        ∙ map-append (λ (byte : ℕ × ℕ). byte.1) (before_step stop (bytes_of (way.given ++ i ∷ []))) (before_step stop (bytes_of rest)) in
+      ap (λ l. map (λ (byte : ℕ × ℕ). byte.1) (before_step stop l)) (sym (items-output run) ∙ ap bytes_of all ∙ filter_map-append byte_of (way.given ++ i ∷ []) rest)
+      ∙ ap (map (λ (byte : ℕ × ℕ). byte.1)) (filter-append (λ (byte : ℕ × ℕ). nat_lt byte.0 stop) (bytes_of (way.given ++ i ∷ [])) (bytes_of rest))
+      ∙ map-append (λ (byte : ℕ × ℕ). byte.1) (before_step stop (bytes_of (way.given ++ i ∷ []))) (before_step stop (bytes_of rest)) in
       part_front (let_out code kind run way.given ++ goes_out refused i.byte) (map (λ (byte : ℕ × ℕ). byte.1) (released_of code run (kind ∷ [])))
       (record { rest = let_out code kind run rest; joined = ap (λ l. l ++ let_out code kind run rest) (sym grows) ∙ sym whole })
       (put_part (let_out code kind run way.given) way.put_it)
@@ -250,8 +249,18 @@ module _ (code : List Span) (kind : Kind) (limit : ℕ) (start : State) (i : Ite
 pub under_way_next : (code : List Span) (kind : Kind) (limit : ℕ) (start : State) (i : Item) (rest : List Item) (seen : List Event → Type 0) (put : List ℕ → Type 0) (fed : List Record → Type 0) (issued released counted : ℕ)
     → HasStepped code kind limit start i rest seen put fed issued released counted → IsUnderWay code kind limit start rest seen put fed issued released counted
 under_way_next code kind limit start i rest seen put fed issued released counted was = record {
-  given = was.given ++ i ∷ []; before = i.item ∷ was.before; all = was.all; fits = was.fits; within = was.within; are = was.are; fed_it = was.fed_it; seen_it = was.seen_it; put_it = was.put_it;
-  issued_is = was.issued_is; released_is = was.released_is; counted_is = was.counted_is;
+  given = was.given ++ i ∷ [];
+  before = i.item ∷ was.before;
+  all = was.all;
+  fits = was.fits;
+  within = was.within;
+  are = was.are;
+  fed_it = was.fed_it;
+  seen_it = was.seen_it;
+  put_it = was.put_it;
+  issued_is = was.issued_is;
+  released_is = was.released_is;
+  counted_is = was.counted_is;
 }
 
 take-all : {X : Type 0} (xs : List X) → take (length xs) xs ≡ xs

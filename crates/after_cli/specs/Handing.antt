@@ -1,5 +1,5 @@
 -- A hub through which one replica is fed at once.
-use Rattle.std.specs.Prelude.{◌≡◌, ◌≤◌, ◌+◌, ℕ, false, [], ◌∷◌, length, min}
+use Rattle.std.specs.Prelude.{◌≡◌, ◌≤◌, false, [], ◌∷◌, length, min}
 use Rattle.gate_core.specs.Hub.{HubState}
 
 -- it is open, and its one reader has taken all that was appended

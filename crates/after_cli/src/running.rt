@@ -122,7 +122,13 @@ fn run_opened<O: Sink>(opened: &mut Opened, out: &mut O) -> Result<u8, Failed>
     ensures cause { OnErr result (Rose (O.faults out.old) (O.faults out.new)) }
     ensures later { O.faults out.old ≤ O.faults out.new }
 {
-    let facts = match run_through(&mut opened.machine, &mut opened.hub, &mut opened.replay, &mut opened.analysis, out) {
+    let facts = match run_through(
+        &mut opened.machine,
+        &mut opened.hub,
+        &mut opened.replay,
+        &mut opened.analysis,
+        out,
+    ) {
         Ok(facts) => facts,
         Err(failed) => return Err(failed),
     };

@@ -1,21 +1,18 @@
-use Rattle.std.proofs.Common.{◌≡◌, ℕ, ◌+◌, ◌<◌, ◌≤◌, [], ◌∷◌, ◌++◌, length, List, Bool, true, false, Option, Some, None, Ok, Err, refl, sym, ap, subst, ◌∙◌, arith}
-use Rattle.std.specs.Prelude.{is_some}
+use Rattle.std.proofs.Common.{◌≡◌, [], ◌∷◌, length, List, None, Ok, refl, ap, subst, ◌∙◌, arith}
 use Rattle.after_edge.specs.Sink.{Adds, AddsPart}
 use Rattle.after_edge.proofs.SinkLaws.{Adds-nothing, Adds-then, AddsPart-then, AddsPart-front}
-use Rattle.run_events.specs.declared.event.Event.{Event}
 use Rattle.run_events.specs.declared.record.Record.{Record}
 use Rattle.machine_model.specs.Items.{Item, items}
 use Rattle.machine_model.specs.Run.{run_from}
 use Rattle.machine_model.specs.Replay.{shown_back, first_fault_back}
-use Rattle.analysis_model.specs.Findings.{findings, first_step}
 use Rattle.analysis_model.specs.Made.{code_made_of, kind_made_of}
 use Rattle.analysis_set.specs.Analysis.{HasSeen, made_of}
 use Rattle.rv_machine.specs.Recorder.{to_come, to_come_in}
 use Rattle.replayer.specs.Replays.{Replays, told}
 use Rattle.replayer.specs.Taking.{answer_of}
 use Rattle.std.specs.Option.{option_map}
-use Rattle.after_cli.specs.Passing.{goes_out, facts_counted}
-use Rattle.after_cli.proofs.ItemLoop.{IsUnderWay, HasStepped, HasEnded, under_way_first, under_way_next, next_behind, next_fits, ends, steps_on, fails_within, items_short, byte_short, out_short, refused_by, first_next, not_both}
+use Rattle.after_cli.specs.Passing.{goes_out}
+use Rattle.after_cli.proofs.ItemLoop.{HasStepped, HasEnded, under_way_first, under_way_next, next_behind, next_fits, ends, steps_on, fails_within, items_short, byte_short, out_short, refused_by, first_next, not_both}
 use Rattle.after_cli.proofs.guard_run.run_through.Given.{Over}
 use Rattle.after_cli.proofs.guard_run.run_through.Goals as goal
 use Rattle.after_cli.proofs.guard_run.run_through.Goals.{After-take, In-Ok-pass_on}
@@ -27,7 +24,7 @@ items-init g c =
     let to_come_is : to_come machine ≡ items (run_from machine.left machine.cpu) = ap (λ phase. to_come_in phase machine.left machine.cpu) c.requires.running in
     record {
       way = under_way_first (code_made_of made) (kind_made_of made) machine.left machine.cpu (to_come machine) (λ h. HasSeen c.args.analysis.now h) (λ bytes. Adds g.O.Sink.holds c.args.out.now c.args.out.now bytes) (λ before. Replays machine.cpu before c.args.replay.now)
-        c.requires.first to_come_is c.requires.seen (Adds-nothing g.O.Sink.holds c.args.out.now) c.requires.replays;
+          c.requires.first to_come_is c.requires.seen (Adds-nothing g.O.Sink.holds c.args.out.now) c.requires.replays;
       next = first_next machine.left machine.cpu (to_come machine) to_come_is;
       ready = c.requires.hub;
       appended = c.requires.none;
@@ -56,7 +53,7 @@ unreachable-requires-in-Err g c =
     let rest = to_come c.advance.new.self in
     let way = c.items.invariant.way in
     let fits : first_fault_back start (i.item ∷ way.before) ≡ None = next_fits (code_made_of made) (kind_made_of made) limit start i rest (to_come c.items.machine) (λ h. HasSeen c.items.analysis h) (λ bytes. Adds g.O.Sink.holds c.args.out.now c.items.out bytes) (λ before. Replays start before c.items.replay)
-        c.items.progress.issued c.items.progress.released c.items.progress.items c.in-Item.ensures.next way in
+    c.items.progress.issued c.items.progress.released c.items.progress.items c.in-Item.ensures.next way in
     let replays = fed_more g (goal.at.unreachable-requires-in-Err g c).After-take way.before way.fed_it in
     let none : c.take.new.self.diverged ≡ None = replays.fault ∙ ap (option_map told) fits in
     let good : c.take.result ≡ Ok tt = c.take.ensures.answer ∙ ap answer_of none in
@@ -65,8 +62,8 @@ unreachable-requires-in-Err g c =
 -- an item that was handed over, replayed, seen and passed on
 stepped : (g : Over) (c : In-Ok-pass_on g)
     → HasStepped (code_made_of (made_of c.args.analysis.now)) (kind_made_of (made_of c.args.analysis.now)) c.args.machine.now.left c.args.machine.now.cpu (record { item = c.in-Item.item; byte = c.in-Item.byte }) (to_come c.advance.new.self)
-      (λ h. HasSeen c.take.new.seen h) (λ bytes. Adds g.O.Sink.holds c.args.out.now c.pass_on.new.out bytes) (λ before. Replays c.args.machine.now.cpu before c.take.new.self)
-      c.pass_on.new.progress.issued c.pass_on.new.progress.released c.pass_on.new.progress.items
+    (λ h. HasSeen c.take.new.seen h) (λ bytes. Adds g.O.Sink.holds c.args.out.now c.pass_on.new.out bytes) (λ before. Replays c.args.machine.now.cpu before c.take.new.self)
+    c.pass_on.new.progress.issued c.pass_on.new.progress.released c.pass_on.new.progress.items
 stepped g c =
     let made = made_of c.args.analysis.now in
     let start = c.args.machine.now.cpu in
@@ -103,7 +100,7 @@ returns-in-Err-pass_on-clause-err g c =
 -- the end was given
 ended : (g : Over) (c : goal.After-ended g)
     → HasEnded (code_made_of (made_of c.args.analysis.now)) (kind_made_of (made_of c.args.analysis.now)) (run_from c.args.machine.now.left c.args.machine.now.cpu) c.in-End.step c.in-End.cause
-      (λ h. HasSeen c.take.new.seen h) (λ bytes. Adds g.O.Sink.holds c.args.out.now c.pass_on.new.out bytes) c.pass_on.new.progress.issued c.pass_on.new.progress.released c.pass_on.new.progress.items
+    (λ h. HasSeen c.take.new.seen h) (λ bytes. Adds g.O.Sink.holds c.args.out.now c.pass_on.new.out bytes) c.pass_on.new.progress.issued c.pass_on.new.progress.released c.pass_on.new.progress.items
 ended g c =
     let made = made_of c.args.analysis.now in
     ends (code_made_of made) (kind_made_of made) c.args.machine.now.left c.args.machine.now.cpu (record { item = c.in-Item.item; byte = c.in-Item.byte }) (to_come c.advance.new.self) c.in-End.step c.in-End.cause
@@ -130,9 +127,9 @@ items-preserved g c =
     let was = stepped g (goal.at.items-preserved g c).In-Ok-pass_on in
     record {
       way = under_way_next (code_made_of made) (kind_made_of made) limit start i rest (λ h. HasSeen c.take.new.seen h) (λ bytes. Adds g.O.Sink.holds c.args.out.now c.pass_on.new.out bytes) (λ before. Replays start before c.take.new.self)
-        c.pass_on.new.progress.issued c.pass_on.new.progress.released c.pass_on.new.progress.items was;
+          c.pass_on.new.progress.issued c.pass_on.new.progress.released c.pass_on.new.progress.items was;
       next = next_behind (code_made_of made) (kind_made_of made) limit start i rest (λ h. HasSeen c.take.new.seen h) (λ bytes. Adds g.O.Sink.holds c.args.out.now c.pass_on.new.out bytes) (λ before. Replays start before c.take.new.self)
-        c.pass_on.new.progress.issued c.pass_on.new.progress.released c.pass_on.new.progress.items c.in_default-item.not-End was;
+          c.pass_on.new.progress.issued c.pass_on.new.progress.released c.pass_on.new.progress.items c.in_default-item.not-End was;
       ready = c.hand_over-got.ensures.ready;
       appended = omega (arith, c.hand_over-got.ensures.appended, c.items.invariant.appended, c.in-Ok-pass_on.ensures.items);
       bound = omega (arith, c.items.invariant.bound, ap length c.in-Item.ensures.next, c.in-Ok-pass_on.ensures.items);

@@ -1,4 +1,4 @@
-use Rattle.std.proofs.Common.{◌≡◌, ℕ, ◌+◌, ◌≤◌, List, length}
+use Rattle.std.proofs.Common.{◌≡◌, ◌+◌, ◌≤◌, length}
 use Rattle.after_edge.specs.Sink.{Adds}
 use Rattle.analysis_model.specs.Made.{code_made_of, kind_made_of}
 use Rattle.analysis_set.specs.Analysis.{HasSeen, kib_of, made_of}
