@@ -4,6 +4,7 @@
 mod core_law;
 mod full;
 mod hub;
+mod hub_law;
 mod shared;
 mod take;
 #[cfg(test)]
@@ -13,5 +14,6 @@ mod verdict;
 pub use core_law::core_stays_sound;
 pub use full::Full;
 pub use hub::Hub;
+pub use hub_law::hub_follows_core;
 pub use take::Take;
 pub use verdict::Verdict;
