@@ -20,7 +20,8 @@ use Rattle.machine_model.specs.Run.{Finished, output, serial_byte, power_status}
 use Rattle.machine_model.specs.State.{State}
 use Rattle.machine_model.specs.Run.{run_from, log}
 use Rattle.machine_model.specs.Replay.{Fault, StepFalls, first_fault_back, fault_behind, executed_back, events_below, shown_back, is_taken}
-use Rattle.machine_model.proofs.Determinism.{FitsOn, fits_here, fits_there, log_FitsOn}
+use Rattle.machine_model.proofs.Determinism.{FitsOn, log_FitsOn}
+use Rattle.replayer.proofs.Determinism.{FitsOn-here, FitsOn-tail}
 use Rattle.machine_model.proofs.ItemLaws.{items-log, items-output, items-limit, items-stuck, items-power, items-goes}
 use Rattle.machine_model.proofs.NumberLaws.{IsNumbered, run_from-IsNumbered, below_taken, from_dropped}
 use Rattle.machine_model.proofs.ShownLaws.{AreWithin, log_AreWithin, shown_back-run}
@@ -71,14 +72,6 @@ let_out-more code kind run given i refused is =
     ∙ ap (map (λ (byte : ℕ × ℕ). byte.1)) (filter-append (λ (byte : ℕ × ℕ). nat_lt byte.0 stop) (bytes_of given) (bytes_of (i ∷ [])))
     ∙ map-append (λ (byte : ℕ × ℕ). byte.1) (before_step stop (bytes_of given)) (before_step stop (bytes_of (i ∷ [])))
     ∙ ap (λ l. let_out code kind run given ++ l) (item_out stop (number i.item - 1) refused i.byte is)
-
--- what a list that fits says of its front and of what stands behind it
-FitsOn-here : (start : State) (before its : List Record) → FitsOn start before its → first_fault_back start before ≡ None
-FitsOn-here start before [] (fits_here fits) = fits
-FitsOn-here start before (item ∷ its) (fits_there fits behind) = fits
-
-FitsOn-tail : (start : State) (before its : List Record) (item : Record) → FitsOn start before (item ∷ its) → FitsOn start (item ∷ before) its
-FitsOn-tail start before its item (fits_there fits behind) = behind
 
 -- nothing fits behind an end
 fault_none : (start : State) (before : List Record) (item : Record) → first_fault_back start (item ∷ before) ≡ None → (o : Option Fault) → first_fault_back start before ≡ o → fault_behind start before item o ≡ None

@@ -20,10 +20,6 @@ state_at-suc : (k : ℕ) (start : State) → state_at (suc k) start ≡ option_a
 unfolding state_at
 state_at-suc k start = refl
 
-pub events_below-first : (start : State) → events_below 0 start ≡ []
-unfolding events_below
-events_below-first start = refl
-
 pub events_below-suc : (k : ℕ) (start : State) → events_below (suc k) start ≡ events_below k start ++ option_to_list (event_at k start)
 unfolding events_below
 events_below-suc k start = refl
