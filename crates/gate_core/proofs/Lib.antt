@@ -1,3 +1,4 @@
 pub mod CoreLaws
+pub mod FinishLaws
 pub mod FollowLaws
 pub mod HubLaws

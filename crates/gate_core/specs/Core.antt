@@ -135,3 +135,20 @@ pub record IsSound (plan : Plan) (s : CoreState) : Type 0 where
 -- every list of events leads from the opening state to a sound one
 abbrev pub StaysSound : Type 0
 StaysSound = (plan : Plan) → IsPlan plan → (events : List CoreEvent) (s : CoreState) → Leads plan (opening plan) events s → IsSound plan s
+
+-- no put has failed, all records were appended and taken, each required replica has approved all that it ever will, and
+-- no byte may be released
+pub record IsFinished (plan : Plan) (s : CoreState) : Type 0 where
+  pub sound : s.failed ≡ false
+  pub appended : s.appended ≡ length plan.items
+  pub taken : (reader : ℕ) → reader < length plan.limits → slice_index s.taken reader ≡ s.appended
+  pub approved : (reader : ℕ) → IsRequired plan reader → slice_index s.approved reader ≡ min (slice_index plan.limits reader) (reach plan.items)
+  pub none : (count : ℕ) → IsReleasable plan s count → ⊥
+
+-- each required replica approves the step of this byte in the end
+abbrev pub IsAllowed : Plan → ℕ → Type 0
+IsAllowed plan byte = (reader : ℕ) → IsRequired plan reader → slice_index plan.outputs byte < slice_index plan.limits reader
+
+-- in a finished state the released bytes are exactly those that all required replicas approve
+abbrev pub ReleasesAll : Type 0
+ReleasesAll = (plan : Plan) → IsPlan plan → (s : CoreState) → IsSound plan s → IsFinished plan s → (byte : ℕ) → byte < length plan.outputs → (byte < s.released → IsAllowed plan byte) × (IsAllowed plan byte → byte < s.released)

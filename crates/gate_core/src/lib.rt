@@ -11,7 +11,7 @@ mod take;
 mod tests;
 mod verdict;
 
-pub use core_law::core_stays_sound;
+pub use core_law::{core_releases_all, core_stays_sound};
 pub use full::Full;
 pub use hub::Hub;
 pub use hub_law::hub_follows_core;
