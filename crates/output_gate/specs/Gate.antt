@@ -1,0 +1,66 @@
+-- What a gate holds, and what each call makes of it.
+use Rattle.std.specs.Prelude.{ℕ, ◌+◌, ◌-◌, ◌==◌, Bool, true, false, nat_le, nat_lt, if◌then◌else◌, List, [], ◌∷◌, ◌++◌, length, take, drop, filter, min, Option, Some, None}
+
+-- the steps and the bytes that wait, first in first; how many bytes were issued, released and withheld; one more than the
+-- last step that was issued, and than the last one whose byte was handed to a put; the step from which on all is withheld;
+-- whether a put has failed
+pub record GateState : Type 0 where
+  pub steps : List ℕ
+  pub bytes : List ℕ
+  pub issued : ℕ
+  pub released : ℕ
+  pub withheld : ℕ
+  pub next : ℕ
+  pub passed : ℕ
+  pub from : Option ℕ
+  pub failed : Bool
+
+-- before the first call
+abbrev pub empty_gate : GateState
+empty_gate = record { steps = []; bytes = []; issued = 0; released = 0; withheld = 0; next = 0; passed = 0; from = None; failed = false }
+
+-- no byte more may wait
+abbrev pub is_full : GateState → Bool
+is_full g = length g.steps == 4096
+
+-- the byte of a step is withheld
+abbrev pub is_withheld : Option ℕ → ℕ → Bool
+is_withheld None step = false
+is_withheld (Some from) step = nat_le from step
+
+-- after a byte was issued: it waits behind the others, or is withheld; nothing where no byte more may wait
+abbrev pub with_issue : GateState → ℕ → ℕ → GateState
+with_issue g step byte =
+    if is_full g then g
+    else if is_withheld g.from step then record g { issued = g.issued + 1; withheld = g.withheld + 1; next = step + 1 }
+    else record g { steps = g.steps ++ step ∷ []; bytes = g.bytes ++ byte ∷ []; issued = g.issued + 1; next = step + 1 }
+
+-- how many of some steps are below this one
+abbrev pub count_below : ℕ → List ℕ → ℕ
+count_below below steps = length (filter (λ step. nat_lt step below) steps)
+
+-- one more than the last of some steps, or what it was before them
+abbrev pub behind : ℕ → List ℕ → ℕ
+behind low [] = low
+behind low (step ∷ steps) = behind (step + 1) steps
+
+-- after the first so many waiting bytes were put, and after a put of them failed
+abbrev pub with_release : GateState → ℕ → GateState
+with_release g count = record g { steps = drop count g.steps; bytes = drop count g.bytes; released = g.released + count; passed = behind g.passed (take count g.steps) }
+
+abbrev pub with_failure : GateState → ℕ → GateState
+with_failure g count = record g { passed = behind g.passed (take count g.steps); failed = true }
+
+-- the lesser of the step from which on all was withheld so far, and this one
+abbrev pub least_from : Option ℕ → ℕ → ℕ
+least_from None step = step
+least_from (Some from) step = min from step
+
+-- after the waiting bytes of all steps from this one on were dropped
+abbrev pub with_withheld : GateState → ℕ → GateState
+with_withheld g step = record g {
+  steps = take (count_below step g.steps) g.steps;
+  bytes = take (count_below step g.steps) g.bytes;
+  withheld = g.withheld + (length g.steps - count_below step g.steps);
+  from = Some (least_from g.from step);
+}

@@ -1,0 +1,6 @@
+//! The output that waits until it may be shown: released in order below a step, withheld from a step on.
+#![tactic(auto)]
+
+mod gate;
+
+pub use gate::{GateFull, OutputGate, SinkFault};
