@@ -1,5 +1,5 @@
 -- What a gate holds, and what each call makes of it.
-use Rattle.std.specs.Prelude.{ℕ, ◌+◌, ◌-◌, ◌==◌, Bool, true, false, nat_le, nat_lt, if◌then◌else◌, List, [], ◌∷◌, ◌++◌, length, take, drop, filter, min, Option, Some, None}
+use Rattle.std.specs.Prelude.{◌≡◌, ℕ, ◌+◌, ◌-◌, ◌≤◌, ◌==◌, Bool, true, false, nat_le, nat_lt, if◌then◌else◌, List, [], ◌∷◌, ◌++◌, length, take, drop, filter, min, Option, Some, None, IfSome}
 
 -- the steps and the bytes that wait, first in first; how many bytes were issued, released and withheld; one more than the
 -- last step that was issued, and than the last one whose byte was handed to a put; the step from which on all is withheld;
@@ -14,6 +14,21 @@ pub record GateState : Type 0 where
   pub passed : ℕ
   pub from : Option ℕ
   pub failed : Bool
+
+-- the steps rise strictly, none is below the first number, and all are below the last one
+abbrev pub Climbs : ℕ → List ℕ → ℕ → Type 0
+Climbs low [] high = low ≤ high
+Climbs low (step ∷ steps) high = (low ≤ step) × Climbs (step + 1) steps high
+
+-- what is true of every gate; the order of what waits is told while no put has failed
+pub record IsGate (g : GateState) : Type 0 where
+  pub few : length g.steps ≤ 4096
+  pub paired : length g.bytes ≡ length g.steps
+  pub counted : g.issued ≡ g.released + length g.steps + g.withheld
+  pub rising : g.issued ≤ g.next
+  pub within : g.next ≤ 1000000000
+  pub order : g.failed ≡ false → Climbs g.passed g.steps g.next
+  pub below : g.failed ≡ false → IfSome g.from (λ from. Climbs g.passed g.steps from)
 
 -- before the first call
 abbrev pub empty_gate : GateState

@@ -1,9 +1,10 @@
-ghost use Rattle.std.specs.Prelude.{◌≡◌, ◌<◌, ◌≤◌, false, length, take, Ok, Err, if◌then◌else◌, IfOk, OnOk, OnErr};
+ghost use Rattle.std.specs.Prelude.{◌≡◌, ◌+◌, ◌<◌, ◌≤◌, false, length, take, drop, is_err, IfOk, OnOk, OnErr};
 ghost use Rattle.after_edge.specs.Fault.{Rose};
 ghost use Rattle.after_edge.specs.Sink.{Adds, AddsPart};
-ghost use Rattle.output_gate.specs.Gate.{count_below, empty_gate, is_full, with_failure, with_issue, with_release, with_withheld};
+ghost use Rattle.circular_buffer.specs.Buffer.{buffer};
+ghost use Rattle.output_gate.specs.Gate.{Climbs, behind, count_below, empty_gate, is_full, is_withheld, least_from, with_failure, with_issue, with_release, with_withheld};
 
-use after_edge::Sink;
+use after_edge::{Failed, Sink};
 use circular_buffer::HeapCircularBuffer;
 use memory_map::NoMemory;
 use std::alloc::Global;
@@ -35,14 +36,14 @@ pub struct OutputGate {
 }
 
 impl Model for OutputGate {
-    ghost use Rattle.output_gate.specs.Gate.{GateState};
+    ghost use Rattle.output_gate.specs.Gate.{GateState, IsGate};
+    ghost use Rattle.std.specs.Prelude.{◌≡◌};
 
     ghost Value = { GateState };
 
     ghost view = { λ g. record { steps = g.steps.items; bytes = g.bytes.items; issued = g.issued; released = g.released; withheld = g.withheld; next = g.next; passed = g.passed; from = g.from; failed = g.failed } };
 
-    // what is true of every gate: yours to write, in specs/Gate.antt (IsGate), with both capacities ROOM
-    ghost invariant = { λ g. (g.steps.capacity ≡ 4096) };
+    ghost invariant = { λ g. (g.steps.capacity ≡ 4096) × (g.bytes.capacity ≡ 4096) × IsGate (record { steps = g.steps.items; bytes = g.bytes.items; issued = g.issued; released = g.released; withheld = g.withheld; next = g.next; passed = g.passed; from = g.from; failed = g.failed }) };
 }
 
 impl OutputGate {
@@ -50,7 +51,17 @@ impl OutputGate {
     pub fn new(alloc: Global) -> Result<OutputGate, NoMemory>
         ensures { IfOk result (λ gate. gate ≡ empty_gate) }
     {
-        todo!()
+        Ok(OutputGate {
+            steps: HeapCircularBuffer::with_capacity(alloc, ROOM)?,
+            bytes: HeapCircularBuffer::with_capacity(alloc, ROOM)?,
+            issued: 0,
+            released: 0,
+            withheld: 0,
+            next: 0,
+            passed: 0,
+            from: None,
+            failed: false,
+        })
     }
 
     /// Lets the byte of a step wait, or, where that step is withheld, counts it as withheld. The steps rise. GateFull
@@ -59,10 +70,21 @@ impl OutputGate {
         requires sound { self.old.failed ≡ false }
         requires rises { self.old.next ≤ step }
         requires within { step < 1000000000 }
-        ensures full { result ≡ (if is_full self.old then Err GateFull else Ok tt) }
+        ensures full { is_err result ≡ is_full self.old }
         ensures after { self.new ≡ with_issue self.old step byte }
     {
-        todo!()
+        if self.steps.is_full() {
+            return Err(GateFull);
+        }
+        self.issued += 1;
+        self.next = step + 1;
+        if is_withheld(self.from, step) {
+            self.withheld += 1;
+            return Ok(());
+        }
+        self.steps.push_back(step);
+        self.bytes.push_back(byte);
+        Ok(())
     }
 
     /// Puts the waiting bytes whose steps are below this one, in order and in one piece of 1 to 4,096 bytes, and answers
@@ -79,7 +101,23 @@ impl OutputGate {
         ensures released { OnOk result (self.new ≡ with_release self.old (count_below below self.old.steps)) }
         ensures failed { OnErr result (self.new ≡ with_failure self.old (count_below below self.old.steps)) }
     {
-        todo!()
+        let count = count_below(below, &self.steps);
+        if count == 0 {
+            return Ok(0);
+        }
+        self.passed = end_of(self.passed, &self.steps, count);
+        match put_front(&mut self.bytes, count, out) {
+            Ok(()) => {
+                drop_front(&mut self.steps, count);
+                drop_front(&mut self.bytes, count);
+                self.released += count as u32;
+                Ok(count as u32)
+            }
+            Err(Failed) => {
+                self.failed = true;
+                Err(SinkFault)
+            }
+        }
     }
 
     /// Drops the waiting bytes of the steps from this one on, and withholds each later one of them. No byte of such a
@@ -89,7 +127,11 @@ impl OutputGate {
         requires passed { self.old.passed ≤ from }
         ensures { self.new ≡ with_withheld self.old from }
     {
-        todo!()
+        let kept = count_below(from, &self.steps);
+        self.withheld += (self.steps.len() - kept) as u32;
+        self.steps.truncate_back(kept);
+        self.bytes.truncate_back(kept);
+        self.from = Some(least_from(self.from, from));
     }
 
     /// How many bytes were issued: as many as are released, wait and are withheld together.
@@ -112,7 +154,7 @@ impl OutputGate {
         ensures waiting { result ≡ length self.now.steps }
         ensures few { result ≤ 4096 }
     {
-        todo!()
+        self.steps.len() as u32
     }
 
     /// One more than the step of the last byte that was handed to a put; 0 where there was none.
@@ -128,4 +170,78 @@ impl OutputGate {
     {
         self.failed
     }
+}
+
+// Whether the byte of a step is withheld.
+fn is_withheld(from: Option<u32>, step: u32) -> bool
+    ensures { result ≡ is_withheld from step }
+{
+    match from {
+        Some(first) => first <= step,
+        None => false,
+    }
+}
+
+// The lesser of the step from which on all was withheld so far, and this one.
+fn least_from(before: Option<u32>, from: u32) -> u32
+    ensures { result ≡ least_from before from }
+{
+    match before {
+        Some(first) => first.min(from),
+        None => from,
+    }
+}
+
+// How many of the steps are below this one: as they rise, the place of the first that is not.
+fn count_below(below: u32, steps: &HeapCircularBuffer<u32>) -> usize
+    requires { Climbs 0 steps.now.items 1000000000 }
+    ensures { result ≡ count_below below steps.now.items }
+{
+    for place in 0..steps.len() {
+        match steps.get(place) {
+            Some(step) if *step < below => {}
+            _ => return place,
+        }
+    }
+    steps.len()
+}
+
+// One more than the last of the first steps, or what it was before them.
+fn end_of(before: u32, steps: &HeapCircularBuffer<u32>, count: usize) -> u32
+    requires climbs { Climbs 0 steps.now.items 1000000000 }
+    requires within { count ≤ length steps.now.items }
+    ensures { result ≡ behind before (take count steps.now.items) }
+{
+    if count == 0 {
+        return before;
+    }
+    match steps.get(count - 1) {
+        Some(step) => *step + 1,
+        None => before,
+    }
+}
+
+// Puts the first bytes in one piece.
+fn put_front<O: Sink>(
+    bytes: &mut HeapCircularBuffer<u8>,
+    count: usize,
+    out: &mut O,
+) -> Result<(), Failed>
+    requires { count ≤ length bytes.old.items }
+    ensures same { bytes.new ≡ bytes.old }
+    ensures ok { OnOk result (Adds O.holds out.old out.new (take count bytes.old.items)) }
+    ensures err { OnErr result (AddsPart O.holds out.old out.new (take count bytes.old.items)) }
+    ensures cause { OnErr result (Rose (O.faults out.old) (O.faults out.new)) }
+    ensures later { O.faults out.old ≤ O.faults out.new }
+{
+    let whole: &[u8] = bytes.make_contiguous();
+    out.put(&whole[..count])
+}
+
+// Drops the first items.
+fn drop_front<T: Drop>(items: &mut HeapCircularBuffer<T>, count: usize)
+    requires { count ≤ length items.old.items }
+    ensures { items.new ≡ buffer (drop count items.old.items) items.old.capacity }
+{
+    items.truncate_front(items.len() - count);
 }

@@ -2,5 +2,6 @@
 #![tactic(auto)]
 
 mod gate;
+mod shared;
 
 pub use gate::{GateFull, OutputGate, SinkFault};
