@@ -195,7 +195,8 @@ fn least_from(before: Option<u32>, from: u32) -> u32
 // How many of the steps are below this one: as they rise, the place of the first that is not.
 fn count_below(below: u32, steps: &HeapCircularBuffer<u32>) -> usize
     requires { Climbs 0 steps.now.items 1000000000 }
-    ensures { result ≡ count_below below steps.now.items }
+    ensures count { result ≡ count_below below steps.now.items }
+    ensures within { result ≤ length steps.now.items }
 {
     for place in 0..steps.len() {
         match steps.get(place) {

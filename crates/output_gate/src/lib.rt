@@ -3,5 +3,7 @@
 
 mod gate;
 mod shared;
+#[cfg(test)]
+mod tests;
 
 pub use gate::{GateFull, OutputGate, SinkFault};
