@@ -215,7 +215,7 @@ break_IsSound plan s count done was may = record {
   closed = λ h. inr refl;
 }
 
-event_IsSound : (plan : Plan) (s : CoreState) (event : CoreEvent) → IsPlan plan → IsSound plan s → May plan s event → IsSound plan (after_event plan s event)
+pub event_IsSound : (plan : Plan) (s : CoreState) (event : CoreEvent) → IsPlan plan → IsSound plan s → May plan s event → IsSound plan (after_event plan s event)
 event_IsSound plan s Append ok was may = append_IsSound plan s ok was may
 event_IsSound plan s Close ok was may = close_IsSound plan s was may
 event_IsSound plan s (TakeNext reader) ok was may = take_IsSound plan s reader ok was may

@@ -6,4 +6,4 @@ mod shared;
 #[cfg(test)]
 mod tests;
 
-pub use gate::{GateFull, OutputGate, SinkFault};
+pub use gate::{GateFull, OutputGate, ROOM, SinkFault};

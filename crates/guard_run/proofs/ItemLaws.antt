@@ -1,0 +1,192 @@
+-- The items of a course, and the bytes that they let go.
+use Rattle.std.proofs.Common.{◌≡◌, ℕ, zero, suc, ◌+◌, ◌-◌, ◌<◌, ◌≤◌, Bool, true, false, cond, List, [], ◌∷◌, ◌++◌, length, take, drop, map, reverse, Option, Some, None, refl, sym, ap, subst, ◌∙◌, arith, append-nil, append_assoc, length-append, take-append-drop}
+use Rattle.std.specs.Prelude.{nat_lt, ◌||◌, ◌==◌, ◌%◌, is_some, slice_index, slice_get, IfSome}
+use Rattle.std.specs.Option.{option_map, option_to_list}
+use Rattle.std.specs.List.{All, AllByRecursion, flat_map, filter_map, cons_option}
+use Rattle.std.proofs.lemmas.List.{map-append, length-map, take_all, take_more}
+use Rattle.std.proofs.lemmas.List.Elements.{filter_map-append, All-append, All-weaker, All-nil, All-push}
+use Rattle.list_laws.specs.Prefix.{IsPrefix}
+use Rattle.run_events.specs.declared.event.Event.{Event}
+use Rattle.run_events.specs.declared.record.Record.{Record}
+use Rattle.run_events.specs.declared.record.Record.TheVariants.{Load, Lines, Dma, Reach, End}
+use Rattle.run_events.specs.Event.{step_of}
+use Rattle.run_events.specs.Record.{IsRecord, number, reach}
+use Rattle.machine_model.specs.State.{State}
+use Rattle.machine_model.specs.Step.{step_from}
+use Rattle.machine_model.specs.Run.{Finished, run_from, output, log, serial_byte, power_status, after_event}
+use Rattle.machine_model.specs.Items.{Item, items, items_behind, byte_of, bytes_of}
+use Rattle.machine_model.specs.Replay.{is_taken}
+use Rattle.machine_model.proofs.ItemLaws.{items-log, items-output}
+use Rattle.machine_model.proofs.RunLaws.{run_from-limit, run_from-stuck, run_from-power, run_from-goes}
+use Rattle.machine_model.proofs.ShownLaws.{AreWithin, log_AreWithin}
+use Rattle.gate_core.specs.Core.{reached}
+use Rattle.guard_run.specs.Course.{Course, IsCourse, run_of, log_of, output_of, stop_of, plan_of}
+use Rattle.guard_run.specs.Gates.{issued_by, IsMarked}
+use Rattle.guard_run.proofs.ListLaws.{steps_of, AllBelow, take_IsPrefix}
+use Rattle.guard_run.proofs.CourseLaws.{numbered, reach_less, reach_push}
+
+-- a run has at most one event a step, and at most one item an event
+steps_by_status : (left : ℕ) (s next : State) (event : Event) → step_from s ≡ Some (event, next) → length (run_from left next).events ≤ left → (o : Option ℕ) → power_status event ≡ o → length (run_from (suc left) s).events ≤ suc left
+steps_by_status left s next event is rest (Some status) power = omega (arith, ap (λ (f : Finished). length f.events) (run_from-power left s next event status is power))
+steps_by_status left s next event is rest None power = omega (arith, ap (λ (f : Finished). length f.events) (run_from-goes left s next event is power), rest)
+
+steps_by_step : (left : ℕ) (s : State) → ((next : State) → length (run_from left next).events ≤ left) → (o : Option (Event × State)) → step_from s ≡ o → length (run_from (suc left) s).events ≤ suc left
+steps_by_step left s rest None none = omega (arith, ap (λ (f : Finished). length f.events) (run_from-stuck left s none))
+steps_by_step left s rest (Some (event, next)) is = steps_by_status left s next event is (rest next) (power_status event) refl
+
+steps_short : (left : ℕ) (s : State) → length (run_from left s).events ≤ left
+steps_short zero s = omega (arith, ap (λ (f : Finished). length f.events) (run_from-limit s))
+steps_short (suc left) s = steps_by_step left s (λ next. steps_short left next) (step_from s) refl
+
+behind_short : (b : Bool) (i : Item) → length {A = Item} (cond b (i ∷ []) []) ≤ 1
+behind_short true i = omega arith
+behind_short false i = omega arith
+
+all_short : (events : List Event) → length (flat_map items_behind events) ≤ length events
+all_short [] = omega arith
+all_short (event ∷ events) =
+    omega (arith, length-append (items_behind event) (flat_map items_behind events), behind_short (is_some (serial_byte event) || (step_of event + 1) % 256 == 0) (record { item = Reach (step_of event + 1); byte = serial_byte event }), all_short events)
+
+-- an item with a byte is a mark that the byte's step is done
+abbrev pub IsItem : Item → Type 0
+IsItem i = (is_taken i.item ≡ true) × IfSome i.byte (λ byte. (k : ℕ) × (i.item ≡ Reach (k + 1)))
+
+abbrev pub AreItems : List Item → Type 0
+AreItems given = AllByRecursion IsItem given
+
+item_behind : (b : Bool) (m : ℕ) (byte : Option ℕ) (rest : List Item) → AreItems rest → AreItems (cond b (record { item = Reach (m + 1); byte = byte } ∷ []) [] ++ rest)
+item_behind true m None rest all = ((refl, tt), all)
+item_behind true m (Some byte) rest all = ((refl, (m, refl)), all)
+item_behind false m byte rest all = all
+
+items_behind_are : (events : List Event) (rest : List Item) → AreItems rest → AreItems (flat_map items_behind events ++ rest)
+items_behind_are [] rest all = all
+items_behind_are (event ∷ events) rest all =
+    subst AreItems (sym (append_assoc (items_behind event) (flat_map items_behind events) rest))
+    (item_behind (is_some (serial_byte event) || (step_of event + 1) % 256 == 0) (step_of event) (serial_byte event) (flat_map items_behind events ++ rest) (items_behind_are events rest all))
+
+items_are : (run : Finished) → AreItems (items run)
+items_are run = items_behind_are run.events (record { item = End run.steps run.cause; byte = None } ∷ []) ((refl, tt), tt)
+
+-- what stands at a place
+dropped-at : {X : Type 0} (k : ℕ) (xs : List X) (x : X) (rest : List X) → drop k xs ≡ x ∷ rest → slice_get xs k ≡ Some x
+dropped-at zero xs x rest is = ap (λ l. slice_get l 0) is
+dropped-at (suc k) [] x rest is = cc
+dropped-at (suc k) (y ∷ xs) x rest is = dropped-at k xs x rest is
+
+dropped-rest : {X : Type 0} (k : ℕ) (xs : List X) (x : X) (rest : List X) → drop k xs ≡ x ∷ rest → drop (suc k) xs ≡ rest
+dropped-rest zero xs x rest is = ap (drop 1) is
+dropped-rest (suc k) [] x rest is = cc
+dropped-rest (suc k) (y ∷ xs) x rest is = dropped-rest k xs x rest is
+
+dropped-less : {X : Type 0} (k : ℕ) (xs : List X) (x : X) (rest : List X) → drop k xs ≡ x ∷ rest → k < length xs
+dropped-less zero [] x rest is = cc
+dropped-less zero (y ∷ xs) x rest is = omega arith
+dropped-less (suc k) [] x rest is = cc
+dropped-less (suc k) (y ∷ xs) x rest is = let less : k < length xs = dropped-less k xs x rest is in omega (arith, less)
+
+dropped-take : {X : Type 0} (k : ℕ) (xs : List X) (x : X) (rest : List X) → drop k xs ≡ x ∷ rest → take (suc k) xs ≡ take k xs ++ x ∷ []
+dropped-take zero [] x rest is = cc
+dropped-take zero (y ∷ xs) x rest is = ap (take 1) is
+dropped-take (suc k) [] x rest is = cc
+dropped-take (suc k) (y ∷ xs) x rest is = ap (λ l. y ∷ l) (dropped-take k xs x rest is)
+
+dropped-map : {X Y : Type 0} (f : X → Y) (k : ℕ) (xs : List X) (x : X) (rest : List X) → drop k xs ≡ x ∷ rest → drop k (map f xs) ≡ f x ∷ map f rest
+dropped-map f zero xs x rest is = ap (map f) is
+dropped-map f (suc k) [] x rest is = cc
+dropped-map f (suc k) (y ∷ xs) x rest is = dropped-map f k xs x rest is
+
+all-at : {X : Type 0} (P : X → Type 0) (k : ℕ) (xs : List X) (x : X) → AllByRecursion P xs → slice_get xs k ≡ Some x → P x
+all-at P k [] x all is = cc
+all-at P zero (y ∷ xs) x all is = subst P (some_same y x is) all.0
+  where
+    some_same : {X : Type 0} (a b : X) → ◌≡◌ {A = Option X} (Some a) (Some b) → a ≡ b
+    some_same a b e = cc
+all-at P (suc k) (y ∷ xs) x all is = all-at P k xs x all.1 is
+
+no_more : {X : Type 0} (k : ℕ) (xs : List X) → drop k xs ≡ [] → length xs ≤ k
+no_more zero [] is = omega arith
+no_more zero (x ∷ xs) is = cc
+no_more (suc k) [] is = omega arith
+no_more (suc k) (x ∷ xs) is = let le : length xs ≤ k = no_more k xs is in omega (arith, le)
+
+-- the next item of a run of which so many were appended
+pub record IsNext (c : Course) (a : ℕ) (i : Item) (rest : List Item) : Type 0 where
+  pub less : a < length (log_of c)
+  pub at : slice_get (log_of c) a ≡ Some i.item
+  pub longer : take (a + 1) (log_of c) ≡ take a (log_of c) ++ i.item ∷ []
+  pub is_record : IsRecord i.item
+  pub taken : is_taken i.item ≡ true
+  pub marked : IsMarked i
+  pub rest_is : drop (a + 1) (items (run_of c)) ≡ rest
+  pub reaches : reached (plan_of c) (a + 1) ≡ number i.item
+  pub issued : issued_by c (a + 1) ≡ issued_by c a ++ cons_option (byte_of i) []
+
+record_by : (item : Record) → is_taken item ≡ true → number item ≤ 1000000000 → IsRecord item
+record_by (Reach step) taken le = le
+record_by (End step cause) taken le = le
+record_by (Load step value mark) taken le = cc
+record_by (Lines step bits) taken le = cc
+record_by (Dma step address word mark) taken le = cc
+
+marked_by : (item : Record) (o : Option ℕ) → IfSome o (λ byte. (k : ℕ) × (item ≡ Reach (k + 1))) → number item ≤ 1000000000 → IfSome o (λ byte. (k : ℕ) × (item ≡ Reach (k + 1)) × (k < 1000000000))
+marked_by item None marked le = tt
+marked_by item (Some byte) (k, is) le = (k, is, omega (arith, ap number is, le))
+
+module _ (c : Course) (is : IsCourse c) where
+  pub steps_within : (run_of c).steps ≤ 1000000000
+  steps_within = omega (arith, steps_short c.limit c.start, (numbered c is).steps, is.limit)
+
+  pub length_log : length (items (run_of c)) ≡ length (log_of c)
+  length_log = sym (length-map (items (run_of c)) (λ (i : Item). i.item)) ∙ ap length (items-log (run_of c))
+
+  pub log_short : length (log_of c) ≤ 1000000001
+  log_short =
+      omega (arith, sym length_log, length-append (flat_map items_behind (run_of c).events) (record { item = End (run_of c).steps (run_of c).cause; byte = None } ∷ []), all_short (run_of c).events, steps_short c.limit c.start, is.limit)
+
+  pub no_item_left : (a : ℕ) → drop a (items (run_of c)) ≡ [] → length (log_of c) ≤ a
+  no_item_left a none = omega (arith, no_more a (items (run_of c)) none, length_log)
+
+  -- the log holds marks and an end alone
+  pub each_taken : (a : ℕ) (item : Record) → slice_get (log_of c) a ≡ Some item → is_taken item ≡ true
+  each_taken a item at = taken_at a (items (run_of c)) item (items_are (run_of c)) (ap (λ l. slice_get l a) (items-log (run_of c)) ∙ at)
+    where
+      taken_at : (a : ℕ) (given : List Item) (item : Record) → AreItems given → slice_get (map (λ (i : Item). i.item) given) a ≡ Some item → is_taken item ≡ true
+      taken_at a [] item all is = cc
+      taken_at zero (i ∷ given) item all is = ap is_taken (some_same item i.item (sym is)) ∙ all.0.0
+        where
+          some_same : (a b : Record) → ◌≡◌ {A = Option Record} (Some a) (Some b) → a ≡ b
+          some_same a b e = cc
+      taken_at (suc a) (i ∷ given) item all is = taken_at a given item all.1 is
+
+  pub next_item : (a : ℕ) (i : Item) (rest : List Item) → drop a (items (run_of c)) ≡ i ∷ rest → IsNext c a i rest
+  next_item a i rest here =
+      let run = run_of c in
+      let one : a + 1 ≡ suc a = omega arith in
+      let in_log : drop a (log_of c) ≡ i.item ∷ map (λ (i : Item). i.item) rest = ap (drop a) (sym (items-log run)) ∙ dropped-map (λ (i : Item). i.item) a (items run) i rest here in
+      let at : slice_get (log_of c) a ≡ Some i.item = dropped-at a (log_of c) i.item (map (λ (i : Item). i.item) rest) in_log in
+      let is_item : IsItem i = all-at IsItem a (items run) i (items_are run) (dropped-at a (items run) i rest here) in
+      let within : number i.item ≤ run.steps = all-at (λ (item : Record). number item ≤ run.steps) a (log_of c) i.item (log_AreWithin 0 run (numbered c is)) at in
+      let few : number i.item ≤ 1000000000 = omega (arith, within, steps_within) in
+      let longer : take (a + 1) (log_of c) ≡ take a (log_of c) ++ i.item ∷ [] = ap (λ n. take n (log_of c)) one ∙ dropped-take a (log_of c) i.item (map (λ (i : Item). i.item) rest) in_log in
+      record {
+        less = dropped-less a (log_of c) i.item (map (λ (i : Item). i.item) rest) in_log;
+        at = at;
+        longer = longer;
+        is_record = record_by i.item is_item.0 few;
+        taken = is_item.0;
+        marked = marked_by i.item i.byte is_item.1 few;
+        rest_is = ap (λ n. drop n (items run)) one ∙ dropped-rest a (items run) i rest here;
+        reaches = ap reach longer ∙ reach_push (take a (log_of c)) i.item;
+        issued = ap (λ n. bytes_of (take n (items run))) one ∙ ap bytes_of (dropped-take a (items run) i rest here) ∙ filter_map-append byte_of (take a (items run)) (i ∷ []);
+      }
+
+  -- what was issued is a front of the output
+  pub issued_IsPrefix : (a : ℕ) → IsPrefix (issued_by c a) (output_of c)
+  issued_IsPrefix a = record {
+    rest = bytes_of (drop a (items (run_of c)));
+    joined = sym (filter_map-append byte_of (take a (items (run_of c))) (drop a (items (run_of c)))) ∙ ap bytes_of (take-append-drop a (items (run_of c))) ∙ items-output (run_of c);
+  }
+
+  pub issued_all : (a : ℕ) → length (log_of c) ≤ a → issued_by c a ≡ output_of c
+  issued_all a le = ap bytes_of (take_all a (items (run_of c)) (omega (arith, length_log, le))) ∙ items-output (run_of c)

@@ -1,0 +1,4 @@
+pub mod CourseLaws
+pub mod ItemLaws
+pub mod ListLaws
+pub mod ReplicaLaws

@@ -1,0 +1,46 @@
+-- What stands when a run is over.
+use Rattle.std.specs.Prelude.{◌≡◌, ℕ, true, List, [], ◌∷◌, length, take, reverse, Option, Some, None, option_map}
+use Rattle.circular_buffer.specs.Buffer.{keep_last}
+use Rattle.run_events.specs.declared.record.Record.{Record}
+use Rattle.run_events.specs.declared.record.Record.TheVariants.{Load, Lines, Dma, Reach, End}
+use Rattle.run_events.specs.Record.{reach}
+use Rattle.analysis_set.specs.declared.head.RunFacts.{RunFacts}
+use Rattle.analysis_set.specs.Analysis.{HasSeen, made_of}
+use Rattle.gate_core.specs.Hub.{hub_state}
+use Rattle.guard_run.specs.declared.closing.Ending.{Ending}
+use Rattle.guard_run.specs.declared.closing.Closing.{Closing}
+use Rattle.guard_run.specs.Course.{Course, run_of}
+use Rattle.guard_run.specs.Gates.{issued_by}
+
+-- the ending that a record tells
+abbrev pub end_at : Record → Option Ending
+end_at (Load step value mark) = None
+end_at (Lines step bits) = None
+end_at (Dma step address word mark) = None
+end_at (Reach step) = None
+end_at (End step cause) = Some (record { steps = step; cause = cause })
+
+-- the ending that a log tells whose last record is given first
+abbrev pub end_back : List Record → Option Ending
+end_back [] = None
+end_back (last ∷ before) = end_at last
+
+abbrev pub end_in : List Record → Option Ending
+end_in items = end_back (reverse items)
+
+-- what the head of the report tells
+abbrev pub facts_at : Closing → Option RunFacts
+facts_at closing = option_map (λ (ending : Ending). record { steps = ending.steps; end = ending.cause; issued = closing.gate.issued; released = closing.gate.released; items = closing.hub.appended }) closing.end
+
+-- The closing of a run with this log: it is closed, its one reader has taken all of it, and the last of it is stored. The
+-- analysis has seen the run's events as far as the log reaches, and no other.
+pub record Closes (c : Course) (items : List Record) (closing : Closing) : Type 0 where
+  pub cap : closing.hub.cap ≡ c.cap
+  pub closed : closing.hub.closed ≡ true
+  pub appended : closing.hub.appended ≡ length items
+  pub taken : closing.hub.taken ≡ length items ∷ []
+  pub stored : closing.hub.stored ≡ keep_last c.cap items
+  pub seen : HasSeen closing.replica.analysis (take (reach items) (run_of c).events)
+  pub made : made_of closing.replica.analysis ≡ c.made
+  pub end : closing.end ≡ end_in items
+  pub issued : closing.gate.issued ≡ length (issued_by c (length items))

@@ -1,0 +1,10 @@
+/// How a guest is run.
+#[derive(Clone, Copy, Debug, PartialEq, Eq)]
+pub struct RunJob {
+    /// The RAM of the guest in KiB, 64 to 16,384.
+    pub ram_kib: u32,
+    /// The most steps, at most 1,000,000,000.
+    pub limit: u32,
+    /// How many records the log holds at a time: a power of two from 16 to 65,536.
+    pub cap: u32,
+}
