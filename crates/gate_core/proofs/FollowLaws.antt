@@ -46,7 +46,7 @@ keep_more n xs x =
     ∙ ap (λ j. drop j (xs ++ x ∷ [])) (omega (arith, kept, more, all))
 
 -- where a hub is full, a reader stands a whole log behind
-named : (counts : List ℕ) (total n : ℕ) (full : Full) → full_at counts total n ≡ Some full → (reader : ℕ) × ((reader < length counts) × (slice_index counts reader + n ≡ total))
+pub named : (counts : List ℕ) (total n : ℕ) (full : Full) → full_at counts total n ≡ Some full → (reader : ℕ) × ((reader < length counts) × (slice_index counts reader + n ≡ total))
 named counts total n full is = by_size (nat_lt total n) refl is
   where
     passes : ℕ → Bool

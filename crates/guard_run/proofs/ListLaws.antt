@@ -40,11 +40,11 @@ behind-push [] x low = refl
 behind-push (y ∷ xs) x low = behind-push xs x (y + 1)
 
 -- what some steps below a bound are among others
-filter-map-by : (b : Bool) (byte : ℕ × ℕ) (steps : List ℕ) (sent : List (ℕ × ℕ)) → steps ≡ steps_of sent → cond b (byte.0 ∷ steps) steps ≡ steps_of (cond b (byte ∷ sent) sent)
+pub filter-map-by : (b : Bool) (byte : ℕ × ℕ) (steps : List ℕ) (sent : List (ℕ × ℕ)) → steps ≡ steps_of sent → cond b (byte.0 ∷ steps) steps ≡ steps_of (cond b (byte ∷ sent) sent)
 filter-map-by true byte steps sent is = ap (λ l. byte.0 ∷ l) is
 filter-map-by false byte steps sent is = is
 
-filter-map-steps : (bound : ℕ) (sent : List (ℕ × ℕ)) → filter (λ step. nat_lt step bound) (steps_of sent) ≡ steps_of (before_step bound sent)
+pub filter-map-steps : (bound : ℕ) (sent : List (ℕ × ℕ)) → filter (λ step. nat_lt step bound) (steps_of sent) ≡ steps_of (before_step bound sent)
 filter-map-steps bound [] = refl
 filter-map-steps bound (byte ∷ sent) = filter-map-by (nat_lt byte.0 bound) byte (filter (λ step. nat_lt step bound) (steps_of sent)) (before_step bound sent) (filter-map-steps bound sent)
 

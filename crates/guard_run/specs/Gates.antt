@@ -32,6 +32,8 @@ pub record Gates (c : Course) (core : CoreState) (gate : GateState) : Type 0 whe
   pub passed : gate.passed ≤ slice_index core.approved 0
   pub withheld : (gate.from ≡ None) ⊎ (gate.from ≡ Some (stop_of c))
   pub sound : gate.failed ≡ false
+  pub there : core.released ≤ length (kept gate.from (issued_by c core.appended))
+  pub few : length gate.steps ≤ 4096
 
 -- an item with a byte is the mark that the step is done which sent it
 abbrev pub IsMarked : Item → Type 0

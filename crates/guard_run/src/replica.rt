@@ -52,6 +52,7 @@ impl Replica {
         requires most { ram_kib ≤ 16384 }
         requires loadable { IsLoadable (1024 * ram_kib) image.now.segments }
         requires entry { image.now.entry % 4 ≡ 0 }
+        requires built { kind ≡ Kind.Cover }
         ensures reader { IfOk result (λ replica. replica.reader ≡ reader) }
         ensures replays { IfOk result (λ replica. Replays (started image.now ram_kib) [] replica.replay) }
         ensures seen { IfOk result (λ replica. HasSeen replica.analysis []) }

@@ -1,0 +1,241 @@
+-- The gate of a run, when it releases and withholds.
+use Rattle.std.proofs.Common.{◌≡◌, ◌⊎◌, inl, inr, ℕ, zero, suc, ◌+◌, ◌-◌, ◌<◌, ◌≤◌, Bool, true, false, cond, List, [], ◌∷◌, ◌++◌, length, take, drop, map, Option, Some, None, refl, sym, ap, subst, ◌∙◌, arith, append-nil, length-append, take-append-drop}
+use Rattle.std.specs.Prelude.{nat_lt, min, slice_index, get_or, filter}
+use Rattle.std.specs.List.{All}
+use Rattle.std.proofs.lemmas.List.{map-append, length-map, drop-map, drop-drop, drop-take, length-drop, take_all, take-map, get_or-map, get_or-drop, get_or-take, get_or_append_left, drop_all, length-take-le}
+use Rattle.std.proofs.lemmas.List.Elements.{All-weaker, All-filter, All-drop, All-get_or, All-from_get_or, All-map, All-head, All-tail, filter_passes}
+use Rattle.list_laws.specs.Prefix.{IsPrefix}
+use Rattle.list_laws.proofs.PrefixLaws.{IsPrefix-trans, IsPrefix-map}
+use Rattle.analysis_model.specs.Job.{before_step, released_of}
+use Rattle.gate_core.specs.Core.{CoreState, Release, Break, after_event, reached, IsSound, IsReleasable, IsShown, IsRequired}
+use Rattle.gate_core.proofs.CoreLaws.{event_IsSound}
+use Rattle.output_gate.specs.Gate.{GateState, Climbs, behind, count_below, least_from, with_release, with_withheld}
+use Rattle.output_gate.proofs.GateLaws.{Climbs-take, Climbs-drop, filter-climbs, count_below-within, count_below-before}
+use Rattle.guard_run.specs.Course.{Course, IsCourse, run_of, log_of, output_of, stop_of, plan_of, released_bytes}
+use Rattle.guard_run.specs.Gates.{Gates, issued_by, kept, still_waiting}
+use Rattle.guard_run.specs.Runs.{with_released, bytes_between}
+use Rattle.guard_run.proofs.ListLaws.{steps_of, bytes_in, AllBelow, Climbs-front, behind-below, IsSplit, splits, split_IsPrefix, count-before, before-again, before-all, before-below, before-drop, before-long, front-take, front-length, filter-map-steps}
+use Rattle.guard_run.proofs.CourseLaws.{climbs, is_plan}
+use Rattle.guard_run.proofs.ItemLaws.{issued_IsPrefix}
+use Rattle.guard_run.proofs.IssueLaws.{issued_under}
+
+-- a step at a place of a front
+front-at : (front whole : List ℕ) (i : ℕ) → IsPrefix front whole → i < length front → slice_index whole i ≡ slice_index front i
+front-at front whole i is less = ap (λ l. get_or l i 0) (sym is.joined) ∙ get_or_append_left front is.rest 0 i less
+
+-- what is below a bound comes first among output whose steps rise
+before-take : (bound low high : ℕ) (sent : List (ℕ × ℕ)) → Climbs low (steps_of sent) high → take (count_below bound (steps_of sent)) sent ≡ before_step bound sent
+before-take bound low high sent climbs =
+    let split = splits bound low high sent climbs in
+    ap (λ n. take n sent) (count-before bound sent)
+    ∙ sym (front-take (length (before_step bound sent)) (before_step bound sent) sent (split_IsPrefix bound sent split) (omega arith))
+    ∙ take_all (length (before_step bound sent)) (before_step bound sent) (omega arith)
+
+-- behind it nothing is below the bound
+none-behind : (bound low high : ℕ) (sent : List (ℕ × ℕ)) → Climbs low (steps_of sent) high → before_step bound (drop (count_below bound (steps_of sent)) sent) ≡ []
+none-behind bound low high sent climbs =
+    let split = splits bound low high sent climbs in
+    ap (before_step bound) (ap (λ n. drop n sent) (count-before bound sent) ∙ ap (drop (length (before_step bound sent))) (sym split.joined) ∙ drop-front (before_step bound sent) split.rest) ∙ split.none
+  where
+    drop-front : (xs ys : List (ℕ × ℕ)) → drop (length xs) (xs ++ ys) ≡ ys
+    drop-front [] ys = refl
+    drop-front (x ∷ xs) ys = drop-front xs ys
+
+filter_all : (below : ℕ) (steps : List ℕ) → All (λ step. step < below) steps → filter (λ step. nat_lt step below) steps ≡ steps
+filter_all below [] all = refl
+filter_all below (step ∷ steps) all =
+    let less = All-head (λ step. step < below) step steps all in
+    let is : nat_lt step below ≡ true = grind (arith, less) in
+    ap (λ b. cond b (step ∷ filter (λ step. nat_lt step below) steps) (filter (λ step. nat_lt step below) steps)) is ∙ ap (λ l. step ∷ l) (filter_all below steps (All-tail (λ step. step < below) step steps all))
+
+module _ (c : Course) (is : IsCourse c) (from : Option ℕ) (a : ℕ) where
+  issued_climbs : Climbs 0 (steps_of (issued_by c a)) (run_of c).steps
+  issued_climbs =
+      let front = issued_IsPrefix c is a in
+      Climbs-front (steps_of (issued_by c a)) (steps_of front.rest) 0 (run_of c).steps
+      (subst (λ l. Climbs 0 l (run_of c).steps) (ap steps_of (sym front.joined) ∙ map-append (λ (byte : ℕ × ℕ). byte.0) (issued_by c a) front.rest) (climbs c is))
+
+  kept_by : (o : Option ℕ) → Climbs 0 (steps_of (kept o (issued_by c a))) (run_of c).steps × IsPrefix (kept o (issued_by c a)) (output_of c)
+  kept_by None = (issued_climbs, issued_IsPrefix c is a)
+  kept_by (Some step) =
+      let split = splits step 0 (run_of c).steps (issued_by c a) issued_climbs in
+      (
+        subst (λ l. Climbs 0 l (run_of c).steps) (sym (filter-climbs (steps_of (issued_by c a)) 0 (run_of c).steps step issued_climbs) ∙ filter-map-steps step (issued_by c a))
+            (Climbs-take (count_below step (steps_of (issued_by c a))) (steps_of (issued_by c a)) 0 (run_of c).steps issued_climbs),
+        IsPrefix-trans (split_IsPrefix step (issued_by c a) split) (issued_IsPrefix c is a),
+      )
+
+  pub kept_IsPrefix : IsPrefix (kept from (issued_by c a)) (output_of c)
+  kept_IsPrefix = (kept_by from).1
+
+  kept_climbs : Climbs 0 (steps_of (kept from (issued_by c a))) (run_of c).steps
+  kept_climbs = (kept_by from).0
+
+  kept_under_by : (low : ℕ) (o : Option ℕ) → AllBelow low (issued_by c a) → AllBelow low (kept o (issued_by c a))
+  kept_under_by low None all = all
+  kept_under_by low (Some step) all = All-filter (λ (byte : ℕ × ℕ). nat_lt byte.0 step) (λ (byte : ℕ × ℕ). byte.0 < low) (issued_by c a) all
+
+-- the bytes that a sound core has released are below the stop
+module _ (c : Course) (core : CoreState) (sound : IsSound (plan_of c) core) where
+  long : core.released ≤ length (output_of c)
+  long = omega (arith, sound.released, length-map (output_of c) (λ (byte : ℕ × ℕ). byte.0))
+
+  at_step : (i : ℕ) → i < core.released → slice_index (steps_of (output_of c)) i < stop_of c
+  at_step i less =
+      let shown = sound.shown i less in
+      let approved = shown.approved 0 (0, omega arith, refl) in
+      let limit = (sound.readers 0 (omega arith)).limit in
+      omega (arith, approved, limit)
+
+  pub released_below : AllBelow (stop_of c) (take core.released (output_of c))
+  released_below =
+      All-from_get_or (λ (byte : ℕ × ℕ). byte.0 < stop_of c) (take core.released (output_of c)) (0, 0) (λ i less.
+      let within : i < core.released = omega (arith, less, length-take-le core.released (output_of c) long) in
+      let same : (get_or (take core.released (output_of c)) i (0, 0)).0 ≡ slice_index (steps_of (output_of c)) i =
+          ap (λ (byte : ℕ × ℕ). byte.0) (sym (get_or_append_left (take core.released (output_of c)) (drop core.released (output_of c)) (0, 0) i less) ∙ ap (λ l. get_or l i (0, 0)) (take-append-drop core.released (output_of c)))
+          ∙ sym (get_or-map (λ (byte : ℕ × ℕ). byte.0) (output_of c) i (0, 0) 0 (omega (arith, within, long))) in
+      let below = at_step i within in omega (arith, below, same))
+
+module _ (c : Course) (is : IsCourse c) (core : CoreState) (gate : GateState) (g : Gates c core gate) where
+  abbrev all_kept : List (ℕ × ℕ)
+  all_kept = kept gate.from (issued_by c core.appended)
+
+  front : IsPrefix all_kept (output_of c)
+  front = kept_IsPrefix c is gate.from core.appended
+
+  waiting_climbs : Climbs (behind 0 (take core.released (steps_of all_kept))) gate.steps (run_of c).steps
+  waiting_climbs =
+      subst (λ l. Climbs (behind 0 (take core.released (steps_of all_kept))) l (run_of c).steps) (drop-map (λ (byte : ℕ × ℕ). byte.0) core.released all_kept ∙ sym g.steps)
+      (Climbs-drop core.released (steps_of all_kept) 0 (run_of c).steps (kept_climbs c is gate.from core.appended))
+
+  still_climbs : Climbs (behind 0 (take core.released (steps_of all_kept))) (steps_of (still_waiting c core gate.from)) (run_of c).steps
+  still_climbs = subst (λ l. Climbs (behind 0 (take core.released (steps_of all_kept))) l (run_of c).steps) g.steps waiting_climbs
+
+  module _ (below : ℕ) (approved : slice_index core.approved 0 ≡ below) where
+    abbrev count : ℕ
+    count = count_below below gate.steps
+
+    room : core.released + count_below below gate.steps ≤ length all_kept
+    room = omega (arith, count_below-within below gate.steps, ap length g.steps, length-map (still_waiting c core gate.from) (λ (byte : ℕ × ℕ). byte.0), length-drop core.released all_kept, g.there)
+
+    passed_below : behind gate.passed (take count gate.steps) ≤ below
+    passed_below =
+        behind-below (take count gate.steps) gate.passed below (omega (arith, g.passed, approved))
+        (subst (All (λ step. step < below)) (filter-climbs gate.steps (behind 0 (take core.released (steps_of all_kept))) (run_of c).steps below waiting_climbs)
+        (All-weaker (λ step. nat_lt step below ≡ true) (λ step. step < below) (λ step lt. less_of step below lt) (filter (λ step. nat_lt step below) gate.steps) (filter_passes (λ step. nat_lt step below) gate.steps)))
+      where
+        less_of : (a b : ℕ) → nat_lt a b ≡ true → a < b
+        less_of a b lt = grind (arith, lt)
+
+    pub after_release : Gates c (with_released core (core.released + count_below below gate.steps)) (with_release gate (count_below below gate.steps))
+    after_release = record {
+      steps = ap (drop count) g.steps ∙ drop-map (λ (byte : ℕ × ℕ). byte.0) count (still_waiting c core gate.from) ∙ ap steps_of (drop-drop count core.released all_kept);
+      bytes = ap (drop count) g.bytes ∙ drop-map (λ (byte : ℕ × ℕ). byte.1) count (still_waiting c core gate.from) ∙ ap bytes_in (drop-drop count core.released all_kept);
+      issued = g.issued;
+      released = ap (λ n. n + count) g.released;
+      last = g.last;
+      passed = omega (arith, passed_below, approved);
+      withheld = g.withheld;
+      sound = g.sound;
+      there = room;
+      few = omega (arith, length-drop count gate.steps, g.few);
+    }
+
+    -- the bytes that are put
+    pub put_is : take (count_below below gate.steps) gate.bytes ≡ bytes_between c core.released (core.released + count_below below gate.steps)
+    put_is =
+        ap (take count) g.bytes
+        ∙ take-map (λ (byte : ℕ × ℕ). byte.1) count (still_waiting c core gate.from)
+        ∙ ap bytes_in (sym (drop-take core.released count all_kept) ∙ ap (drop core.released) (front-take (core.released + count) all_kept (output_of c) front room))
+
+    -- each of them may be released
+    step_is : (byte : ℕ) → core.released ≤ byte → byte < core.released + count → slice_index (steps_of (output_of c)) byte ≡ slice_index gate.steps (byte - core.released)
+    step_is byte from to =
+        let within : byte < length (steps_of all_kept) = omega (arith, to, room, length-map all_kept (λ (byte : ℕ × ℕ). byte.0)) in
+        front-at (steps_of all_kept) (steps_of (output_of c)) byte (IsPrefix-map (λ (byte : ℕ × ℕ). byte.0) front) within
+        ∙ ap (λ n. slice_index (steps_of all_kept) n) (let e : byte ≡ core.released + (byte - core.released) = omega (arith, from) in e)
+        ∙ sym (get_or-drop core.released (steps_of all_kept) (byte - core.released) 0)
+        ∙ ap (λ l. slice_index l (byte - core.released)) (drop-map (λ (byte : ℕ × ℕ). byte.0) core.released all_kept ∙ sym g.steps)
+
+    all_reached : core.appended ≤ length (log_of c) → All (λ step. step < reached (plan_of c) core.appended) gate.steps
+    all_reached le =
+        subst (All (λ step. step < reached (plan_of c) core.appended)) (sym g.steps)
+        (All-map (λ step. step < reached (plan_of c) core.appended) (λ (byte : ℕ × ℕ). byte.0) (still_waiting c core gate.from)
+        (All-drop (λ (byte : ℕ × ℕ). byte.0 < reached (plan_of c) core.appended) core.released all_kept (kept_under_by c is gate.from core.appended (reached (plan_of c) core.appended) gate.from (issued_under c is core.appended le))))
+
+    only_reader : (reader : ℕ) → IsRequired (plan_of c) reader → reader ≡ 0
+    only_reader reader (zero, less, is) = sym is
+    only_reader reader (suc place, less, is) = absurd (omega (arith, less))
+
+    releasable : IsSound (plan_of c) core → core.failed ≡ false → 1 ≤ count_below below gate.steps → IsReleasable (plan_of c) core (count_below below gate.steps)
+    releasable sound fine some = record {
+      sound = fine;
+      some = some;
+      piece = omega (arith, count_below-within below gate.steps, g.few);
+      there = omega (arith, room, front-length all_kept (output_of c) front, length-map (output_of c) (λ (byte : ℕ × ℕ). byte.0));
+      shown = λ byte from to.
+          let here = step_is byte from to in
+          let place : byte - core.released < count_below below gate.steps = omega (arith, from, to) in
+          let low = count_below-before gate.steps (behind 0 (take core.released (steps_of all_kept))) (run_of c).steps below (byte - core.released) waiting_climbs place in
+          let reach = All-get_or (λ step. step < reached (plan_of c) core.appended) gate.steps (byte - core.released) 0 (omega (arith, place, count_below-within below gate.steps)) (all_reached sound.appended) in
+          record {
+            reached = omega (arith, here, reach);
+            approved = λ reader required. subst (λ r. slice_index (steps_of (output_of c)) byte < slice_index core.approved r) (sym (only_reader reader required)) (omega (arith, here, low, approved));
+          };
+    }
+
+    -- and the core stays sound
+    pub release_sound : IsSound (plan_of c) core → core.failed ≡ false → IsSound (plan_of c) (with_released core (core.released + count_below below gate.steps))
+    release_sound sound fine = by count refl
+      where
+        by : (n : ℕ) → count_below below gate.steps ≡ n → IsSound (plan_of c) (with_released core (core.released + count_below below gate.steps))
+        by zero none = subst (λ n. IsSound (plan_of c) (with_released core n)) (let e : core.released ≡ core.released + count_below below gate.steps = omega (arith, none) in e) sound
+        by (suc n) some = event_IsSound (plan_of c) core (Release (count_below below gate.steps)) (is_plan c is) sound (releasable sound fine (omega (arith, some)))
+
+    -- where the replica approves all that was appended, nothing waits behind a release
+    pub none_waits : core.appended ≤ length (log_of c) → reached (plan_of c) core.appended ≤ below → drop (count_below below gate.steps) gate.steps ≡ []
+    none_waits le all =
+        let every : filter (λ step. nat_lt step below) gate.steps ≡ gate.steps = filter_all below gate.steps (All-weaker (λ step. step < reached (plan_of c) core.appended) (λ step. step < below) (λ step less. omega (arith, less, all)) gate.steps (all_reached le)) in
+        let whole : length (filter (λ step. nat_lt step below) gate.steps) ≡ length gate.steps = ap length every in
+        drop_all (count_below below gate.steps) gate.steps (omega (arith, whole))
+
+  -- after the gate withheld from the stop on
+  module _ (sound : IsSound (plan_of c) core) where
+    kept_first : AllBelow (stop_of c) (take core.released all_kept)
+    kept_first = subst (AllBelow (stop_of c)) (sym (front-take core.released all_kept (output_of c) front g.there)) (released_below c core sound)
+
+    kept_again : before_step (stop_of c) all_kept ≡ before_step (stop_of c) (issued_by c core.appended)
+    kept_again = by gate.from g.withheld
+      where
+        by : (o : Option ℕ) → (o ≡ None) ⊎ (o ≡ Some (stop_of c)) → before_step (stop_of c) (kept o (issued_by c core.appended)) ≡ before_step (stop_of c) (issued_by c core.appended)
+        by o (inl none) = ap (λ o. before_step (stop_of c) (kept o (issued_by c core.appended))) none
+        by o (inr some) = ap (λ o. before_step (stop_of c) (kept o (issued_by c core.appended))) some ∙ before-again (stop_of c) (issued_by c core.appended)
+
+    still_is : take (count_below (stop_of c) gate.steps) (still_waiting c core gate.from) ≡ still_waiting c core (Some (stop_of c))
+    still_is =
+        ap (λ l. take (count_below (stop_of c) l) (still_waiting c core gate.from)) g.steps
+        ∙ before-take (stop_of c) (behind 0 (take core.released (steps_of all_kept))) (run_of c).steps (still_waiting c core gate.from) still_climbs
+        ∙ before-drop (stop_of c) core.released all_kept kept_first
+        ∙ ap (drop core.released) kept_again
+
+    from_is : least_from gate.from (stop_of c) ≡ stop_of c
+    from_is = by gate.from g.withheld
+      where
+        by : (o : Option ℕ) → (o ≡ None) ⊎ (o ≡ Some (stop_of c)) → least_from o (stop_of c) ≡ stop_of c
+        by o (inl none) = ap (λ o. least_from o (stop_of c)) none
+        by o (inr some) = ap (λ o. least_from o (stop_of c)) some ∙ (let e : min (stop_of c) (stop_of c) ≡ stop_of c = omega arith in e)
+
+    pub after_withhold : Gates c core (with_withheld gate (stop_of c))
+    after_withhold = record {
+      steps = ap (take (count_below (stop_of c) gate.steps)) g.steps ∙ take-map (λ (byte : ℕ × ℕ). byte.0) (count_below (stop_of c) gate.steps) (still_waiting c core gate.from) ∙ ap steps_of (still_is ∙ ap (λ n. still_waiting c core (Some n)) (sym from_is));
+      bytes = ap (take (count_below (stop_of c) gate.steps)) g.bytes ∙ take-map (λ (byte : ℕ × ℕ). byte.1) (count_below (stop_of c) gate.steps) (still_waiting c core gate.from) ∙ ap bytes_in (still_is ∙ ap (λ n. still_waiting c core (Some n)) (sym from_is));
+      issued = g.issued;
+      released = g.released;
+      last = g.last;
+      passed = g.passed;
+      withheld = inr (ap Some from_is);
+      sound = g.sound;
+      there = subst (λ n. core.released ≤ length (kept (Some n) (issued_by c core.appended))) (sym from_is)
+          (subst (λ l. core.released ≤ length l) kept_again (before-long (stop_of c) core.released all_kept g.there kept_first));
+      few = omega (arith, length-take-le (count_below (stop_of c) gate.steps) gate.steps (count_below-within (stop_of c) gate.steps), count_below-within (stop_of c) gate.steps, g.few);
+    }
