@@ -1,7 +1,10 @@
 pub mod AppendLaws
 pub mod CourseLaws
+pub mod EndLaws
 pub mod IssueLaws
 pub mod ItemLaws
 pub mod ListLaws
 pub mod ReleaseLaws
 pub mod ReplicaLaws
+pub mod RoundLaws
+pub mod TurnLaws

@@ -199,6 +199,17 @@ module _ (c : Course) (is : IsCourse c) (core : CoreState) (gate : GateState) (g
         let whole : length (filter (λ step. nat_lt step below) gate.steps) ≡ length gate.steps = ap length every in
         drop_all (count_below below gate.steps) gate.steps (omega (arith, whole))
 
+    -- behind a release nothing is below the bound
+    pub none_withheld : take (count_below below (drop (count_below below gate.steps) gate.steps)) (drop (count_below below gate.steps) gate.steps) ≡ []
+    none_withheld =
+        let low = behind 0 (take core.released (steps_of all_kept)) in
+        let sent = still_waiting c core gate.from in
+        let rest : drop (count_below below gate.steps) gate.steps ≡ steps_of (drop (count_below below (steps_of sent)) sent) =
+            (λ i. drop (count_below below (g.steps i)) (g.steps i)) ∙ drop-map (λ (byte : ℕ × ℕ). byte.0) (count_below below (steps_of sent)) sent in
+        let zero_is : count_below below (drop (count_below below gate.steps) gate.steps) ≡ 0 =
+            ap (count_below below) rest ∙ count-before below (drop (count_below below (steps_of sent)) sent) ∙ ap length (none-behind below low (run_of c).steps sent still_climbs) in
+        ap (λ n. take n (drop (count_below below gate.steps) gate.steps)) zero_is
+
   -- after the gate withheld from the stop on
   module _ (sound : IsSound (plan_of c) core) where
     kept_first : AllBelow (stop_of c) (take core.released all_kept)

@@ -32,7 +32,7 @@ taken-more zero (y ∷ xs) x is = ap (λ y. y ∷ []) (some_same y x is)
     some_same a b e = cc
 taken-more (suc k) (y ∷ xs) x is = ap (λ l. y ∷ l) (taken-more k xs x is)
 
-set_one : (xs : List ℕ) (y : ℕ) → length xs ≡ 1 → slice_index (slice_set xs 0 y) 0 ≡ y
+pub set_one : (xs : List ℕ) (y : ℕ) → length xs ≡ 1 → slice_index (slice_set xs 0 y) 0 ≡ y
 set_one [] y one = absurd (omega (arith, one))
 set_one (x ∷ xs) y one = refl
 

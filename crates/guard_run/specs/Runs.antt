@@ -122,7 +122,7 @@ pub record HasBrokenRound {S : Type 0} (c : Course) (core : CoreState) (after : 
   pub more : core.released ≤ count
   pub might : IsSound (plan_of c) (with_released next count)
   pub put : AddsPart holds old new (bytes_between c core.released count)
-  pub broken : IsBroken c next after
+  pub broken : IsBroken c (record next { failed = true }) after
 
 -- the log was closed where it stood, and the replica has taken all of it
 pub record IsReadOut (c : Course) (core : CoreState) (after : Parts) : Type 0 where

@@ -1,0 +1,134 @@
+-- A run that has come to its end, and one that a failed put has ended.
+use Rattle.std.proofs.Common.{◌≡◌, ◌⊎◌, inl, inr, ℕ, zero, suc, ◌+◌, ◌-◌, ◌<◌, ◌≤◌, Bool, true, false, List, [], ◌∷◌, ◌++◌, length, take, drop, map, Option, Some, None, refl, sym, ap, subst, ◌∙◌, arith, take-append-drop, append-nil}
+use Rattle.std.specs.Prelude.{slice_index, nat_lt}
+use Rattle.std.proofs.lemmas.List.{map-append, length-map, length-drop, length-take-le, take-take, take_all}
+use Rattle.std.proofs.lemmas.List.Elements.{filter-append}
+use Rattle.after_edge.specs.Sink.{Adds, AddsPart}
+use Rattle.after_edge.proofs.SinkLaws.{Adds-same, Adds-then, AddsPart-same, AddsPart-then, AddsPart-front}
+use Rattle.list_laws.specs.Prefix.{IsPrefix}
+use Rattle.list_laws.proofs.PrefixLaws.{IsPrefix-map}
+use Rattle.run_events.specs.declared.record.Record.{Record}
+use Rattle.analysis_model.specs.Job.{before_step}
+use Rattle.gate_core.specs.Core.{CoreState, Close, after_event, IsSound}
+use Rattle.gate_core.specs.Hub.{HubState, with_close}
+use Rattle.gate_core.proofs.CoreLaws.{event_IsSound}
+use Rattle.guard_run.specs.declared.parts.Parts.{Parts}
+use Rattle.guard_run.specs.declared.replica.Replica.{Replica}
+use Rattle.guard_run.specs.declared.replica.Turn.TheVariants.{Took, Empty, Closed}
+use Rattle.guard_run.specs.Course.{Course, run_of, log_of, output_of, stop_of, plan_of, released_bytes}
+use Rattle.guard_run.specs.Gates.{Gates, issued_by, kept, still_waiting}
+use Rattle.guard_run.specs.Replicas.{Follows, Turned, taken_by, after_turn}
+use Rattle.guard_run.specs.Runs.{IsAt, IsIdle, IsBroken, IsReadOut, HasEnded, HasStopped, HasBrokenRound, with_released, bytes_between}
+use Rattle.guard_run.proofs.ListLaws.{steps_of, bytes_in, AllBelow, before-all, before-again, front-take}
+use Rattle.guard_run.proofs.CourseLaws.{is_plan}
+use Rattle.guard_run.proofs.ItemLaws.{issued_all}
+use Rattle.guard_run.proofs.ReleaseLaws.{kept_IsPrefix, released_below}
+use Rattle.guard_run.proofs.ReplicaLaws.{set_one}
+
+-- the bytes up to a place, and on from there
+pub between-then : (c : Course) (p q : ℕ) → p ≤ q → bytes_between c 0 p ++ bytes_between c p q ≡ bytes_between c 0 q
+between-then c p q le =
+    let out = output_of c in
+    sym (map-append (λ (byte : ℕ × ℕ). byte.1) (take p out) (drop p (take q out)))
+    ∙ ap bytes_in (ap (λ l. l ++ drop p (take q out)) (sym (take_less p q out le)) ∙ take-append-drop p (take q out))
+  where
+    take_less : {X : Type 0} (p q : ℕ) (xs : List X) → p ≤ q → take p (take q xs) ≡ take p xs
+    take_less zero q xs le = refl
+    take_less (suc p) zero xs le = absurd (omega (arith, le))
+    take_less (suc p) (suc q) [] le = refl
+    take_less (suc p) (suc q) (x ∷ xs) le = ap (λ l. x ∷ l) (take_less p q xs (omega (arith, le)))
+
+-- the bytes that a sound core may have released are the first of those that the analysis lets out
+pub might_IsPrefix : (c : Course) (core : CoreState) → IsSound (plan_of c) core → IsPrefix (bytes_between c 0 core.released) (released_bytes c)
+might_IsPrefix c core sound =
+    let out = output_of c in
+    let q : ℕ = core.released in
+    let front : before_step (stop_of c) (take q out) ≡ take q out = before-all (stop_of c) (take q out) (released_below c core sound) in
+    IsPrefix-map (λ (byte : ℕ × ℕ). byte.1) (record {
+      rest = before_step (stop_of c) (drop q out);
+      joined = ap (λ l. l ++ before_step (stop_of c) (drop q out)) (sym front) ∙ sym (filter-append (λ (byte : ℕ × ℕ). nat_lt byte.0 (stop_of c)) (take q out) (drop q out)) ∙ ap (before_step (stop_of c)) (take-append-drop q out);
+    })
+
+-- where all was appended and nothing waits, all that the analysis lets out is released
+module _ (c : Course) (core : CoreState) (parts : Parts) (idle : IsIdle c core parts) (closed : core.closed ≡ true) where
+  all_appended : core.appended ≡ length (log_of c)
+  all_appended = by (idle.at.follows.sound.closed closed)
+    where
+      by : ((core.appended ≡ length (log_of c)) ⊎ (core.failed ≡ true)) → core.appended ≡ length (log_of c)
+      by (inl all) = all
+      by (inr failed) = absurd (let both : ◌≡◌ true false = sym failed ∙ idle.at.sound in cc)
+
+  issued_is : issued_by c core.appended ≡ output_of c
+  issued_is = issued_all c idle.at.follows.course core.appended (omega (arith, all_appended))
+
+  long : core.released ≡ length (kept parts.gate.from (issued_by c core.appended))
+  long =
+      let none : length (still_waiting c core parts.gate.from) ≡ 0 = sym (length-map (still_waiting c core parts.gate.from) (λ (byte : ℕ × ℕ). byte.0)) ∙ ap length (sym idle.at.gates.steps ∙ idle.none) in
+      omega (arith, none, length-drop core.released (kept parts.gate.from (issued_by c core.appended)), idle.at.gates.there)
+
+  kept_is : kept parts.gate.from (issued_by c core.appended) ≡ before_step (stop_of c) (output_of c)
+  kept_is = by parts.gate.from idle.at.gates.withheld long
+    where
+      by : (o : Option ℕ) → ((o ≡ None) ⊎ (o ≡ Some (stop_of c))) → core.released ≡ length (kept o (issued_by c core.appended)) → kept o (issued_by c core.appended) ≡ before_step (stop_of c) (output_of c)
+      by o (inr some) n = ap (λ o. kept o (issued_by c core.appended)) some ∙ ap (before_step (stop_of c)) issued_is
+      by o (inl none) n =
+          let here : kept o (issued_by c core.appended) ≡ output_of c = ap (λ o. kept o (issued_by c core.appended)) none ∙ issued_is in
+          let whole : take core.released (output_of c) ≡ output_of c = take_all core.released (output_of c) (omega (arith, n, ap length here)) in
+          here ∙ sym (before-all (stop_of c) (output_of c) (subst (AllBelow (stop_of c)) whole (released_below c core idle.at.follows.sound)))
+
+  released_is : take core.released (output_of c) ≡ before_step (stop_of c) (output_of c)
+  released_is =
+      sym (front-take core.released (kept parts.gate.from (issued_by c core.appended)) (output_of c) (kept_IsPrefix c idle.at.follows.course parts.gate.from core.appended) idle.at.gates.there)
+      ∙ take_all core.released (kept parts.gate.from (issued_by c core.appended)) (omega (arith, long))
+      ∙ kept_is
+
+  pub has_ended : {S : Type 0} (holds : S → List ℕ → Type 0) (old new : S) → Adds holds old new (bytes_between c 0 core.released) → HasEnded c parts holds old new
+  has_ended holds old new put = record {
+    core = core;
+    at = idle.at;
+    closed = closed;
+    appended = all_appended;
+    taken = idle.taken;
+    released = long ∙ ap length kept_is ∙ sym (length-map (before_step (stop_of c) (output_of c)) (λ (byte : ℕ × ℕ). byte.1));
+    put = Adds-same holds old new (ap bytes_in released_is) put;
+  }
+
+-- after a put that failed
+pub has_stopped : (c : Course) (core : CoreState) (round : Parts) (parts : Parts) {S : Type 0} (holds : S → List ℕ → Type 0) (first old new : S) → Adds holds first old (bytes_between c 0 core.released)
+    → (b : HasBrokenRound c core round holds old new) → IsReadOut c (record b.next { failed = true }) parts → HasStopped c parts holds first new
+has_stopped c core round parts holds first old new put b out = record {
+  core = out.last;
+  broken = out.broken;
+  closed = out.closed;
+  taken = out.taken;
+  put = AddsPart-front holds first new (bytes_between c 0 b.count) (released_bytes c) (might_IsPrefix c (with_released b.next b.count) b.might)
+      (AddsPart-same holds first new (between-then c core.released b.count b.more) (AddsPart-then holds first old new (bytes_between c 0 core.released) (bytes_between c core.released b.count) put b.put));
+}
+
+-- the log of a failed run is closed where it stands
+pub closes_broken : (c : Course) (core : CoreState) (parts : Parts) → IsBroken c core parts → parts.hub.closed ≡ false
+    → IsBroken c (after_event (plan_of c) core Close) (record { source = parts.source; hub = with_close parts.hub; replica = parts.replica; gate = parts.gate; end = parts.end })
+closes_broken c core parts b opened =
+    let f = b.follows in
+    let open' : core.closed ≡ false = sym (λ i. (f.stands i).closed) ∙ opened in
+    record {
+      follows = record {
+        course = f.course;
+        stands = ap with_close f.stands;
+        approved = f.approved;
+        sound = event_IsSound (plan_of c) core Close (is_plan c f.course) f.sound (open', inr b.failed);
+        reader = f.reader;
+        replays = f.replays;
+        seen = f.seen;
+        made = f.made;
+        size = f.size;
+      };
+      end = b.end;
+      issued = b.issued;
+      failed = b.failed;
+    }
+
+-- one record more was taken of a closed log
+pub takes_broken : (c : Course) (core : CoreState) (parts : Parts) → IsBroken c core parts → (hub : HubState) (replica : Replica) → Follows c (after_turn c core) hub replica
+    → IsBroken c (after_turn c core) (record { source = parts.source; hub = hub; replica = replica; gate = parts.gate; end = parts.end })
+takes_broken c core parts b hub replica follows = record { follows = follows; end = b.end; issued = b.issued; failed = b.failed }

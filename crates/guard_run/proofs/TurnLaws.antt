@@ -1,0 +1,125 @@
+-- A turn of the gate, where the core stands.
+use Rattle.std.proofs.Common.{◌≡◌, ◌⊎◌, inl, inr, ℕ, zero, suc, ◌+◌, ◌-◌, ◌<◌, ◌≤◌, Bool, true, false, List, [], ◌∷◌, length, take, drop, Option, Some, None, refl, sym, ap, subst, ◌∙◌, arith}
+use Rattle.std.specs.Prelude.{min, nat_lt, slice_index}
+use Rattle.after_edge.specs.Sink.{Adds, AddsPart}
+use Rattle.after_edge.proofs.SinkLaws.{Adds-same, AddsPart-same}
+use Rattle.gate_core.specs.declared.verdict.Verdict.{Verdict}
+use Rattle.gate_core.specs.Core.{CoreState, reached, IsSound}
+use Rattle.gate_core.specs.Hub.{verdict_at}
+use Rattle.output_gate.specs.Gate.{GateState, count_below, with_failure, with_release, with_withheld}
+use Rattle.guard_run.specs.declared.parts.Parts.{Parts}
+use Rattle.guard_run.specs.Course.{Course, run_of, log_of, output_of, stop_of, plan_of}
+use Rattle.guard_run.specs.Gates.{Gates, issued_by, still_waiting}
+use Rattle.guard_run.specs.Replicas.{Follows, taken_by, verdict_of}
+use Rattle.guard_run.specs.Runs.{IsAt, IsBroken, HasReleased, HasBroken, with_released, bytes_between}
+use Rattle.guard_run.proofs.ListLaws.{steps_of, count-before}
+use Rattle.guard_run.proofs.ReleaseLaws.{after_release, put_is, release_sound, none_waits, none_withheld, after_withhold}
+
+-- the same run with another gate
+abbrev pub with_gate : Parts → GateState → Parts
+with_gate parts gate = record { source = parts.source; hub = parts.hub; replica = parts.replica; gate = gate; end = parts.end }
+
+module _ (c : Course) (core : CoreState) (parts : Parts) (at : IsAt c core parts) where
+  approved_is : slice_index core.approved 0 ≡ (verdict_of c (taken_by core)).approved
+  approved_is = ap (λ l. slice_index l 0) at.follows.approved
+
+  pub looked : verdict_at parts.hub 0 ≡ verdict_of c (taken_by core)
+  looked = ap (λ h. verdict_at h 0) at.follows.stands
+
+  -- a failed core is as sound
+  pub failed_sound : IsSound (plan_of c) (record core { failed = true })
+  failed_sound =
+      let s = at.follows.sound in
+      record {
+        taken = s.taken;
+        approved = s.approved;
+        appended = s.appended;
+        readers = λ reader less. record { taken = (s.readers reader less).taken; room = (s.readers reader less).room; limit = (s.readers reader less).limit; seen = (s.readers reader less).seen };
+        released = s.released;
+        shown = λ byte less. record { reached = (s.shown byte less).reached; approved = (s.shown byte less).approved };
+        closed = λ is. inr refl;
+      }
+
+  module _ (verdict : Verdict) (is : verdict ≡ verdict_of c (taken_by core)) where
+    abbrev count : ℕ
+    count = count_below verdict.approved parts.gate.steps
+
+    approves : slice_index core.approved 0 ≡ verdict.approved
+    approves = approved_is ∙ ap (λ (v : Verdict). v.approved) (sym is)
+
+    gates_now : Gates c (with_released core (core.released + count)) (with_release parts.gate count)
+    gates_now = after_release c at.follows.course core parts.gate at.gates verdict.approved approves
+
+    sound_now : IsSound (plan_of c) (with_released core (core.released + count))
+    sound_now = release_sound c at.follows.course core parts.gate at.gates verdict.approved approves at.follows.sound at.sound
+
+    pub passed_low : (gate : GateState) → gate ≡ with_release parts.gate (count_below verdict.approved parts.gate.steps) → gate.passed ≤ verdict.approved
+    passed_low gate made = omega (arith, ap (λ (g : GateState). g.passed) made, gates_now.passed, approves)
+
+    follows_now : Follows c (with_released core (core.released + count)) parts.hub parts.replica
+    follows_now =
+        let f = at.follows in
+        record { course = f.course; stands = f.stands; approved = f.approved; sound = sound_now; reader = f.reader; replays = f.replays; seen = f.seen; made = f.made; size = f.size }
+
+    at_now : (gate : GateState) → Gates c (with_released core (core.released + count)) gate → IsAt c (with_released core (core.released + count)) (with_gate parts gate)
+    at_now gate gates = record { follows = follows_now; rest = at.rest; gates = gates; end = at.end; sound = at.sound }
+
+    -- what the replica says in numbers
+    refuses_at : verdict.refused ≡ true → verdict.approved ≡ stop_of c
+    refuses_at refused =
+        let low : nat_lt (stop_of c) (reached (plan_of c) (taken_by core)) ≡ true = ap (λ (v : Verdict). v.refused) (sym is) ∙ refused in
+        ap (λ (v : Verdict). v.approved) is ∙ min_left (stop_of c) (reached (plan_of c) (taken_by core)) low
+      where
+        min_left : (a b : ℕ) → nat_lt a b ≡ true → min a b ≡ a
+        min_left a b less = let lt : a < b = grind (arith, less) in omega (arith, lt)
+
+    lets_all : verdict.refused ≡ false → reached (plan_of c) (taken_by core) ≤ verdict.approved
+    lets_all passes =
+        let high : nat_lt (stop_of c) (reached (plan_of c) (taken_by core)) ≡ false = ap (λ (v : Verdict). v.refused) (sym is) ∙ passes in
+        let approved : verdict.approved ≡ min (stop_of c) (reached (plan_of c) (taken_by core)) = ap (λ (v : Verdict). v.approved) is in
+        omega (arith, approved, min_right (stop_of c) (reached (plan_of c) (taken_by core)) high)
+      where
+        min_right : (a b : ℕ) → nat_lt a b ≡ false → b ≤ min a b
+        min_right a b less = let le : b ≤ a = grind (arith, less) in omega (arith, le)
+
+    module _ {S : Type 0} (holds : S → List ℕ → Type 0) (old new : S) where
+      -- nothing is refused
+      pub released_on : verdict.refused ≡ false → Adds holds old new (take (count_below verdict.approved parts.gate.steps) parts.gate.bytes)
+          → HasReleased c core (with_gate parts (with_release parts.gate (count_below verdict.approved parts.gate.steps))) holds old new
+      released_on passes added = record {
+        count = core.released + count;
+        more = omega arith;
+        at = at_now (with_release parts.gate count) gates_now;
+        put = Adds-same holds old new (put_is c at.follows.course core parts.gate at.gates verdict.approved approves) added;
+        none = λ all. none_waits c at.follows.course core parts.gate at.gates verdict.approved approves at.follows.sound.appended
+            (subst (λ n. reached (plan_of c) n ≤ verdict.approved) all (lets_all passes));
+      }
+
+      -- the rest is withheld
+      pub released_last : verdict.refused ≡ true → Adds holds old new (take (count_below verdict.approved parts.gate.steps) parts.gate.bytes)
+          → HasReleased c core (with_gate parts (with_withheld (with_release parts.gate (count_below verdict.approved parts.gate.steps)) verdict.approved)) holds old new
+      released_last refused added = record {
+        count = core.released + count;
+        more = omega arith;
+        at = at_now (with_withheld (with_release parts.gate count) verdict.approved)
+            (subst (λ step. Gates c (with_released core (core.released + count)) (with_withheld (with_release parts.gate count) step)) (sym (refuses_at refused))
+            (after_withhold c at.follows.course (with_released core (core.released + count)) (with_release parts.gate count) gates_now sound_now));
+        put = Adds-same holds old new (put_is c at.follows.course core parts.gate at.gates verdict.approved approves) added;
+        none = λ all. none_withheld c at.follows.course core parts.gate at.gates verdict.approved approves;
+      }
+
+      -- the put failed
+      pub broken_off : (gate : GateState) → gate ≡ with_failure parts.gate (count_below verdict.approved parts.gate.steps) → AddsPart holds old new (take (count_below verdict.approved parts.gate.steps) parts.gate.bytes)
+          → HasBroken c core (with_gate parts gate) holds old new
+      broken_off gate made added = record {
+        count = core.released + count;
+        more = omega arith;
+        might = sound_now;
+        put = AddsPart-same holds old new (put_is c at.follows.course core parts.gate at.gates verdict.approved approves) added;
+        broken = record {
+          follows = record { course = at.follows.course; stands = at.follows.stands; approved = at.follows.approved; sound = failed_sound; reader = at.follows.reader; replays = at.follows.replays; seen = at.follows.seen; made = at.follows.made; size = at.follows.size };
+          end = at.end;
+          issued = ap (λ (g : GateState). g.issued) made ∙ at.gates.issued;
+          failed = refl;
+        };
+      }
