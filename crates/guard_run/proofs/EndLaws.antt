@@ -18,7 +18,7 @@ use Rattle.guard_run.specs.declared.replica.Turn.TheVariants.{Took, Empty, Close
 use Rattle.guard_run.specs.Course.{Course, run_of, log_of, output_of, stop_of, plan_of, released_bytes}
 use Rattle.guard_run.specs.Gates.{Gates, issued_by, kept, still_waiting}
 use Rattle.guard_run.specs.Replicas.{Follows, Turned, taken_by, after_turn}
-use Rattle.guard_run.specs.Runs.{IsAt, IsIdle, IsBroken, IsReadOut, HasEnded, HasStopped, HasBrokenRound, with_released, bytes_between}
+use Rattle.guard_run.specs.Runs.{IsAt, IsIdle, IsBroken, IsOnItsWay, IsReadOut, HasEnded, HasStopped, HasBrokenRound, with_released, bytes_between}
 use Rattle.guard_run.proofs.ListLaws.{steps_of, bytes_in, AllBelow, before-all, before-again, front-take}
 use Rattle.guard_run.proofs.CourseLaws.{is_plan}
 use Rattle.guard_run.proofs.ItemLaws.{issued_all}
@@ -104,6 +104,25 @@ has_stopped c core round parts holds first old new put b out = record {
   put = AddsPart-front holds first new (bytes_between c 0 b.count) (released_bytes c) (might_IsPrefix c (with_released b.next b.count) b.might)
       (AddsPart-same holds first new (between-then c core.released b.count b.more) (AddsPart-then holds first old new (bytes_between c 0 core.released) (bytes_between c core.released b.count) put b.put));
 }
+
+-- the bytes that two rounds have put
+pub put_then : (c : Course) (core next : CoreState) {S : Type 0} (holds : S → List ℕ → Type 0) (first old new : S) → core.released ≤ next.released → Adds holds first old (bytes_between c 0 core.released)
+    → Adds holds old new (bytes_between c core.released next.released) → Adds holds first new (bytes_between c 0 next.released)
+put_then c core next holds first old new more put added =
+    Adds-same holds first new (between-then c core.released next.released more) (Adds-then holds first old new (bytes_between c 0 core.released) (bytes_between c core.released next.released) put added)
+
+-- between two rounds once more
+pub on_then : (c : Course) (core next : CoreState) (parts : Parts) → IsIdle c next parts → {S : Type 0} (holds : S → List ℕ → Type 0) (first old new : S) → core.released ≤ next.released → Adds holds first old (bytes_between c 0 core.released)
+    → Adds holds old new (bytes_between c core.released next.released) → IsOnItsWay c parts holds first new
+on_then c core next parts idle holds first old new more put added = record {
+  core = next;
+  idle = idle;
+  put = put_then c core next holds first old new more put added;
+}
+
+-- the same run with another hub
+abbrev pub with_hub : Parts → HubState → Parts
+with_hub parts hub = record { source = parts.source; hub = hub; replica = parts.replica; gate = parts.gate; end = parts.end }
 
 -- the log of a failed run is closed where it stands
 pub closes_broken : (c : Course) (core : CoreState) (parts : Parts) → IsBroken c core parts → parts.hub.closed ≡ false

@@ -59,7 +59,7 @@ pub record IsCaughtUp (c : Course) (core : CoreState) (turn : Turn) (after : Par
   pub at : IsAt c next after
   pub released : next.released ≡ core.released
   pub taken : taken_by next ≡ next.appended
-  pub how : ((turn ≡ Closed) × (next.closed ≡ true)) ⊎ (left_of c next < left_of c core)
+  pub how : ((turn ≡ Closed) × (next.closed ≡ true)) ⊎ ((turn ≡ Took) × (left_of c next < left_of c core))
 
 gates_turned : (c : Course) (core : CoreState) (parts : Parts) (at : IsAt c core parts) (hub : HubState) (replica : Replica) → Follows c (after_turn c core) hub replica → Gates c (after_turn c core) parts.gate
 gates_turned c core parts at hub replica follows =
@@ -94,7 +94,7 @@ caught_up_by c core parts r Took hub replica turned = by r.how
       at = record { follows = turned.1; rest = r.at.rest; gates = gates_turned c r.next parts r.at hub replica turned.1; end = r.at.end; sound = r.at.sound };
       released = r.released;
       taken = omega (arith, number, taken, appended);
-      how = inr (omega (arith, appended, more, ap {B = ℕ} (λ b. cond b 0 1) was_open, ap {B = ℕ} (λ b. cond b 0 1) is_open));
+      how = inr (refl, omega (arith, appended, more, ap {B = ℕ} (λ b. cond b 0 1) was_open, ap {B = ℕ} (λ b. cond b 0 1) is_open));
     }
     by (inr (closed, taken)) = absurd (omega (arith, taken, turned.0))
 caught_up_by c core parts r Empty hub replica turned = absurd (by r.how)
@@ -135,9 +135,9 @@ module _ (c : Course) (core : CoreState) (turn : Turn) (before parts after : Par
       goes = by up.how;
     }
       where
-        by : ((turn ≡ Closed) × (up.next.closed ≡ true)) ⊎ (left_of c up.next < left_of c core) → ((turn ≡ Closed) × (up.next.closed ≡ true)) ⊎ (turns_left after < turns_left before)
+        by : ((turn ≡ Closed) × (up.next.closed ≡ true)) ⊎ ((turn ≡ Took) × (left_of c up.next < left_of c core)) → ((turn ≡ Closed) × (up.next.closed ≡ true)) ⊎ ((turn ≡ Took) × (turns_left after < turns_left before))
         by (inl ended) = inl ended
-        by (inr less) = inr (omega (arith, less, left_is c core before idle.at, left_is c (with_released up.next r.count) after r.at))
+        by (inr (took, less)) = inr (took, omega (arith, less, left_is c core before idle.at, left_is c (with_released up.next r.count) after r.at))
 
     pub broken : HasBroken c up.next after holds old new → HasBrokenRound c core after holds old new
     broken r = record {

@@ -107,13 +107,13 @@ pub record IsIdle (c : Course) (core : CoreState) (parts : Parts) : Type 0 where
 abbrev pub turns_left : Parts → ℕ
 turns_left parts = length (still_to_come parts.source) + (if parts.hub.closed then 0 else 1)
 
--- a round of turns: the next bytes were put, and the log was closed before or the recorder came on
+-- a round of turns: the next bytes were put, and the replica has read to the close or the recorder came on
 pub record HasPassed {S : Type 0} (c : Course) (core : CoreState) (last : Turn) (before after : Parts) (holds : S → List ℕ → Type 0) (old new : S) : Type 0 where
   pub next : CoreState
   pub idle : IsIdle c next after
   pub more : core.released ≤ next.released
   pub put : Adds holds old new (bytes_between c core.released next.released)
-  pub goes : ((last ≡ turn.Closed) × (next.closed ≡ true)) ⊎ (turns_left after < turns_left before)
+  pub goes : ((last ≡ turn.Closed) × (next.closed ≡ true)) ⊎ ((last ≡ turn.Took) × (turns_left after < turns_left before))
 
 -- a round whose put failed: some of the next bytes were put, all of which might have been released
 pub record HasBrokenRound {S : Type 0} (c : Course) (core : CoreState) (after : Parts) (holds : S → List ℕ → Type 0) (old new : S) : Type 0 where
@@ -124,7 +124,14 @@ pub record HasBrokenRound {S : Type 0} (c : Course) (core : CoreState) (after : 
   pub put : AddsPart holds old new (bytes_between c core.released count)
   pub broken : IsBroken c (record next { failed = true }) after
 
--- the log was closed where it stood, and the replica has taken all of it
+-- the log was closed where it stood
+pub record IsShut (c : Course) (core : CoreState) (after : Parts) : Type 0 where
+  pub last : CoreState
+  pub broken : IsBroken c last after
+  pub same : last.appended ≡ core.appended
+  pub closed : last.closed ≡ true
+
+-- and the replica has taken all of it
 pub record IsReadOut (c : Course) (core : CoreState) (after : Parts) : Type 0 where
   pub last : CoreState
   pub broken : IsBroken c last after
@@ -164,3 +171,9 @@ pub record IsBrokenRun (parts : Parts) : Type 0 where
   pub of : Course
   pub core : CoreState
   pub broken : IsBroken of core parts
+
+-- the run stands between two rounds, and the bytes that it has released were put
+pub record IsOnItsWay {S : Type 0} (c : Course) (parts : Parts) (holds : S → List ℕ → Type 0) (old new : S) : Type 0 where
+  pub core : CoreState
+  pub idle : IsIdle c core parts
+  pub put : Adds holds old new (bytes_between c 0 core.released)

@@ -2,7 +2,7 @@ ghost use Rattle.std.specs.Prelude.{◌≡◌, ◌≤◌, OnOk, OnErr, IfOk};
 ghost use Rattle.after_edge.specs.Fault.{Rose};
 ghost use Rattle.gate_core.specs.Core.{CoreState};
 ghost use Rattle.guard_run.specs.Course.{Course};
-ghost use Rattle.guard_run.specs.Runs.{HasBrokenRound, HasEnded, HasPassed, HasStopped, IsBroken, IsBrokenRun, IsIdle, IsIdleRun, IsOpened, IsOpenedRun, IsReadOut};
+ghost use Rattle.guard_run.specs.Runs.{HasBrokenRound, HasEnded, HasPassed, HasStopped, IsBroken, IsBrokenRun, IsIdle, IsIdleRun, IsOpened, IsOpenedRun, IsReadOut, IsShut};
 
 use crate::parts::Parts;
 use crate::replica::Turn;
@@ -26,14 +26,21 @@ impl Parts {
         }
     }
 
-    // Closes the log, where it is open, and lets the replica read to the close.
-    fn read_out(&mut self)
-        requires { IsBrokenRun self.old }
-        ensures { (c : Course) (core : CoreState) → IsBroken c core self.old → IsReadOut c core self.new }
+    // Closes the log where it is still open.
+    fn shut(&mut self)
+        ensures { (c : Course) (core : CoreState) → IsBroken c core self.old → IsShut c core self.new }
     {
         if !self.hub.is_closed() {
             self.hub.close();
         }
+    }
+
+    // Closes the log, and lets the replica read to the close.
+    fn read_out(&mut self)
+        requires { IsBrokenRun self.old }
+        ensures { (c : Course) (core : CoreState) → IsBroken c core self.old → IsReadOut c core self.new }
+    {
+        self.shut();
         'records: loop {
             match self.replica.turn(&mut self.hub) {
                 Turn::Took => {}

@@ -1,0 +1,48 @@
+use Rattle.std.proofs.Common.{◌≡◌, ◌⊎◌, inl, inr, ◌≤◌, true, refl, sym, ◌∙◌, arith}
+use Rattle.after_edge.specs.Sink.{Adds}
+use Rattle.gate_core.specs.Core.{CoreState}
+use Rattle.guard_run.specs.declared.replica.Turn.{Turn}
+use Rattle.guard_run.specs.declared.replica.Turn.TheVariants.{Took, Closed}
+use Rattle.guard_run.proofs.EndLaws.{has_ended, has_stopped, on_then, put_then}
+use Rattle.guard_run.proofs.turns.run_turns.Goals as goal
+
+pub round-requires : goal.round-requires
+round-requires g c =
+    let way = c.rounds.invariant.way c.requires.of c.requires.opened in
+    record { of = c.requires.of; core = way.core; idle = way.idle }
+
+-- the replica has read to the close
+closed_by : {A : Type 0} (core : CoreState) (last : Turn) → last ≡ Closed → ((last ≡ Closed) × (core.closed ≡ true)) ⊎ ((last ≡ Took) × A) → core.closed ≡ true
+closed_by core last is (inl ended) = ended.1
+closed_by core last is (inr goes) = let both : ◌≡◌ {A = Turn} Closed Took = sym is ∙ goes.0 in absurd (no_turn both)
+  where
+    no_turn : ◌≡◌ {A = Turn} Closed Took → ⊥
+    no_turn e = cc
+
+pub returns-in-Ok-Closed-clause-ok : goal.returns-in-Ok-Closed-clause-ok
+returns-in-Ok-Closed-clause-ok g c = λ of opened.
+    let way = c.rounds.invariant.way of opened in
+    let passed = c.in-Ok-Closed.ensures.ok of way.core way.idle in
+    has_ended of passed.next c.round.new.self passed.idle (closed_by passed.next c.in-Ok-Closed.field-0 c.in-Ok-Closed.field-0-is passed.goes) g.O.Sink.holds c.args.out.now c.round.new.out
+    (put_then of way.core passed.next g.O.Sink.holds c.args.out.now c.rounds.out c.round.new.out passed.more way.put passed.put)
+
+pub rounds-preserved : goal.rounds-preserved
+rounds-preserved g c = record {
+  way = λ of opened.
+      let way = c.rounds.invariant.way of opened in
+      let passed = c.in-Ok-Took.ensures.ok of way.core way.idle in
+      on_then of way.core passed.next c.round.new.self passed.idle g.O.Sink.holds c.args.out.now c.rounds.out c.round.new.out passed.more way.put passed.put;
+  later = omega (arith, c.rounds.invariant.later, c.round.ensures.later);
+}
+
+pub read_out-requires : goal.read_out-requires
+read_out-requires g c =
+    let way = c.rounds.invariant.way c.requires.of c.requires.opened in
+    let b = c.in-Err.ensures.err c.requires.of way.core way.idle in
+    record { of = c.requires.of; core = record b.next { failed = true }; broken = b.broken }
+
+pub returns-in-Err-clause-err : goal.returns-in-Err-clause-err
+returns-in-Err-clause-err g c = λ of opened.
+    let way = c.rounds.invariant.way of opened in
+    let b = c.in-Err.ensures.err of way.core way.idle in
+    has_stopped of way.core c.round.new.self c.read_out.new.self g.O.Sink.holds c.args.out.now c.rounds.out c.round.new.out way.put b (c.read_out.ensures of (record b.next { failed = true }) b.broken)
