@@ -84,12 +84,14 @@ module _ (c : Course) (core : CoreState) (parts : Parts) (idle : IsIdle c core p
 
   pub has_ended : {S : Type 0} (holds : S → List ℕ → Type 0) (old new : S) → Adds holds old new (bytes_between c 0 core.released) → HasEnded c parts holds old new
   has_ended holds old new put = record {
-    core = core;
-    at = idle.at;
-    closed = closed;
-    appended = all_appended;
-    taken = idle.taken;
-    released = long ∙ ap length kept_is ∙ sym (length-map (before_step (stop_of c) (output_of c)) (λ (byte : ℕ × ℕ). byte.1));
+    ended = record {
+      core = core;
+      at = idle.at;
+      closed = closed;
+      appended = all_appended;
+      taken = idle.taken;
+      released = long ∙ ap length kept_is ∙ sym (length-map (before_step (stop_of c) (output_of c)) (λ (byte : ℕ × ℕ). byte.1));
+    };
     put = Adds-same holds old new (ap bytes_in released_is) put;
   }
 
@@ -97,10 +99,7 @@ module _ (c : Course) (core : CoreState) (parts : Parts) (idle : IsIdle c core p
 pub has_stopped : (c : Course) (core : CoreState) (round : Parts) (parts : Parts) {S : Type 0} (holds : S → List ℕ → Type 0) (first old new : S) → Adds holds first old (bytes_between c 0 core.released)
     → (b : HasBrokenRound c core round holds old new) → IsReadOut c (record b.next { failed = true }) parts → HasStopped c parts holds first new
 has_stopped c core round parts holds first old new put b out = record {
-  core = out.last;
-  broken = out.broken;
-  closed = out.closed;
-  taken = out.taken;
+  stopped = record { core = out.last; broken = out.broken; closed = out.closed; taken = out.taken };
   put = AddsPart-front holds first new (bytes_between c 0 b.count) (released_bytes c) (might_IsPrefix c (with_released b.next b.count) b.might)
       (AddsPart-same holds first new (between-then c core.released b.count b.more) (AddsPart-then holds first old new (bytes_between c 0 core.released) (bytes_between c core.released b.count) put b.put));
 }

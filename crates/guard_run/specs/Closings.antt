@@ -1,5 +1,6 @@
 -- What stands when a run is over.
 use Rattle.std.specs.Prelude.{◌≡◌, ℕ, true, List, [], ◌∷◌, length, take, reverse, Option, Some, None, option_map}
+use Rattle.list_laws.specs.Prefix.{IsPrefix}
 use Rattle.circular_buffer.specs.Buffer.{keep_last}
 use Rattle.run_events.specs.declared.record.Record.{Record}
 use Rattle.run_events.specs.declared.record.Record.TheVariants.{Load, Lines, Dma, Reach, End}
@@ -9,7 +10,7 @@ use Rattle.analysis_set.specs.Analysis.{HasSeen, made_of}
 use Rattle.gate_core.specs.Hub.{hub_state}
 use Rattle.guard_run.specs.declared.closing.Ending.{Ending}
 use Rattle.guard_run.specs.declared.closing.Closing.{Closing}
-use Rattle.guard_run.specs.Course.{Course, run_of}
+use Rattle.guard_run.specs.Course.{Course, run_of, log_of, released_bytes}
 use Rattle.guard_run.specs.Gates.{issued_by}
 
 -- the ending that a record tells
@@ -29,10 +30,13 @@ abbrev pub end_in : List Record → Option Ending
 end_in items = end_back (reverse items)
 
 -- what the head of the report tells
-abbrev pub facts_at : Closing → Option RunFacts
-facts_at closing = option_map (λ (ending : Ending). record { steps = ending.steps; end = ending.cause; issued = closing.gate.issued; released = closing.gate.released; items = closing.hub.appended }) closing.end
+abbrev pub facts_with : Closing → Ending → RunFacts
+facts_with closing ending = record { steps = ending.steps; end = ending.cause; issued = closing.gate.issued; released = closing.gate.released; items = closing.hub.appended }
 
--- The closing of a run with this log: it is closed, its one reader has taken all of it, and the last of it is stored. The
+abbrev pub facts_at : Closing → Option RunFacts
+facts_at closing = option_map (facts_with closing) closing.end
+
+-- The closing of a run with this list of records as its log: it is closed, its one reader has taken all of it, and the last of it is stored. The
 -- analysis has seen the run's events as far as the log reaches, and no other.
 pub record Closes (c : Course) (items : List Record) (closing : Closing) : Type 0 where
   pub cap : closing.hub.cap ≡ c.cap
@@ -44,3 +48,16 @@ pub record Closes (c : Course) (items : List Record) (closing : Closing) : Type 
   pub made : made_of closing.replica.analysis ≡ c.made
   pub end : closing.end ≡ end_in items
   pub issued : closing.gate.issued ≡ length (issued_by c (length items))
+
+-- The closing of a run that went to its end: its list is the whole log, its analysis has seen all events, and the gate has
+-- released all bytes that the analysis lets out.
+pub record ClosesWhole (c : Course) (closing : Closing) : Type 0 where
+  pub closes : Closes c (log_of c) closing
+  pub all : HasSeen closing.replica.analysis (run_of c).events
+  pub released : closing.gate.released ≡ length (released_bytes c)
+
+-- the closing of a run that a failed put has ended: its list is a front of the log
+pub record ClosesFront (c : Course) (closing : Closing) : Type 0 where
+  pub items : List Record
+  pub front : IsPrefix items (log_of c)
+  pub closes : Closes c items closing

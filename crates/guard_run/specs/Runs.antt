@@ -140,21 +140,28 @@ pub record IsReadOut (c : Course) (core : CoreState) (after : Parts) : Type 0 wh
   pub taken : taken_by last ≡ last.appended
 
 -- a run that went to its end: all records were appended and taken, and all bytes that the analysis lets out were released
-pub record HasEnded {S : Type 0} (c : Course) (parts : Parts) (holds : S → List ℕ → Type 0) (old new : S) : Type 0 where
+pub record IsEnded (c : Course) (parts : Parts) : Type 0 where
   pub core : CoreState
   pub at : IsAt c core parts
   pub closed : core.closed ≡ true
   pub appended : core.appended ≡ length (log_of c)
   pub taken : taken_by core ≡ core.appended
   pub released : core.released ≡ length (released_bytes c)
-  pub put : Adds holds old new (released_bytes c)
 
 -- a run that a failed put has ended: the log was closed, and all of it was taken
-pub record HasStopped {S : Type 0} (c : Course) (parts : Parts) (holds : S → List ℕ → Type 0) (old new : S) : Type 0 where
+pub record IsStopped (c : Course) (parts : Parts) : Type 0 where
   pub core : CoreState
   pub broken : IsBroken c core parts
   pub closed : core.closed ≡ true
   pub taken : taken_by core ≡ core.appended
+
+-- and what was put by then
+pub record HasEnded {S : Type 0} (c : Course) (parts : Parts) (holds : S → List ℕ → Type 0) (old new : S) : Type 0 where
+  pub ended : IsEnded c parts
+  pub put : Adds holds old new (released_bytes c)
+
+pub record HasStopped {S : Type 0} (c : Course) (parts : Parts) (holds : S → List ℕ → Type 0) (old new : S) : Type 0 where
+  pub stopped : IsStopped c parts
   pub put : AddsPart holds old new (released_bytes c)
 
 -- some course is that of the run, before its first turn, between two rounds, or after a failed put

@@ -5,10 +5,11 @@ ghost use Rattle.gate_core.specs.Core.{CoreState};
 ghost use Rattle.gate_core.specs.Hub.{is_cap};
 ghost use Rattle.output_gate.specs.Gate.{is_full};
 ghost use Rattle.run_events.specs.Record.{number};
+ghost use Rattle.guard_run.specs.Closings.{ClosesFront, ClosesWhole};
 ghost use Rattle.guard_run.specs.Gates.{IsMarked, with_item};
 ghost use Rattle.guard_run.specs.Sources.{item_of};
 ghost use Rattle.guard_run.specs.Course.{Course};
-ghost use Rattle.guard_run.specs.Runs.{IsAt, IsOpened, IsUnderWay, Records, HasReleased, HasBroken, course_of};
+ghost use Rattle.guard_run.specs.Runs.{IsAt, IsEnded, IsOpened, IsStopped, IsUnderWay, Records, HasReleased, HasBroken, course_of};
 
 use crate::closing::{Closing, Ending};
 use crate::job::RunJob;
@@ -114,7 +115,7 @@ impl Parts {
         Ok(())
     }
 
-    /// What stands when the run is over.
+    /// What stands when the run is over, whose log the replica has read to its close.
     pub fn finish(self) -> Closing
         requires closed { self.hub.closed ≡ true }
         requires taken { self.hub.taken ≡ self.hub.appended ∷ [] }
@@ -122,6 +123,8 @@ impl Parts {
         ensures replica { result.replica ≡ self.replica }
         ensures gate { result.gate ≡ self.gate }
         ensures end { result.end ≡ self.end }
+        ensures whole { (c : Course) → IsEnded c self → ClosesWhole c result }
+        ensures front { (c : Course) → IsStopped c self → ClosesFront c result }
     {
         let Parts {
             hub,

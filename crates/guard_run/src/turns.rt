@@ -1,4 +1,4 @@
-ghost use Rattle.std.specs.Prelude.{◌≡◌, ◌≤◌, OnOk, OnErr, IfOk};
+ghost use Rattle.std.specs.Prelude.{◌≡◌, ◌≤◌, ◌∷◌, [], true, OnOk, OnErr, IfOk};
 ghost use Rattle.after_edge.specs.Fault.{Rose};
 ghost use Rattle.gate_core.specs.Core.{CoreState};
 ghost use Rattle.guard_run.specs.Course.{Course};
@@ -61,6 +61,8 @@ pub fn run_turns<O: Sink>(parts: &mut Parts, out: &mut O) -> Result<(), SinkFaul
     ensures err { OnErr result ((c : Course) → IsOpened c parts.old → HasStopped c parts.new O.holds out.old out.new) }
     ensures cause { OnErr result (Rose (O.faults out.old) (O.faults out.new)) }
     ensures later { O.faults out.old ≤ O.faults out.new }
+    ensures closed { parts.new.hub.closed ≡ true }
+    ensures read { parts.new.hub.taken ≡ parts.new.hub.appended ∷ [] }
 {
     'rounds: loop {
         match parts.round(out) {
