@@ -68,11 +68,11 @@ module _ (content : Option Contents) (words : List (List ℕ)) (file : List ℕ)
   -- only the whole text, or want of memory, is left
   pub complete : {S : Type 0} (before now : ℕ) (holds : S → List ℕ → Type 0) (faults : S → ℕ) (old new : S) (a : Answer) → Means content words before now holds faults old new a
       → (Rose before now → ⊥) → (Rose (faults old) (faults new) → ⊥) → IsWhole holds old new (number_of a) file
-  complete before now holds faults old new (Done number) m files_stay out_stays =
+  complete before now holds faults old new (Done number closing) m files_stay out_stays =
       let same : m.file ≡ file = same_file m.run.image m.run.script m.file IMAGE_MAX m.run.named m.run.inputs.image_read in
       inr (subst (λ (f : List ℕ). Adds holds old new (text (default_job f))) same m.written, m.status_is ∙ ap (λ (f : List ℕ). status (default_job f)) same)
   complete before now holds faults old new FilesFailed m files_stay out_stays = absurd (not_failed m.0.image m.0.script before now m.0.named files_stay m.0.failed)
-  complete before now holds faults old new OutputFailed m files_stay out_stays = absurd (out_stays m.rose)
+  complete before now holds faults old new (OutputFailed closing) m files_stay out_stays = absurd (out_stays m.rose)
   complete before now holds faults old new NoMemory m files_stay out_stays = inl refl
   complete before now holds faults old new NotBuilt m files_stay out_stays =
       ⊎_elim (λ no_run. absurd (no_run run.image run.script run.named)) (λ foreign. absurd (not_foreign foreign.image foreign.script foreign.named foreign.not_built)) m.0

@@ -1,29 +1,54 @@
 -- What a job writes is what its run writes.
-use Rattle.std.proofs.Common.{◌≡◌, ℕ, List, [], ◌∷◌, ◌++◌, sym, ◌∙◌, ap, append-nil}
+use Rattle.std.proofs.Common.{◌≡◌, ℕ, List, [], ◌∷◌, ◌++◌, ◌≤◌, Option, Some, refl, sym, ◌∙◌, ap, subst, append-nil, arith}
+use Rattle.std.specs.Option.{option_map}
+use Rattle.list_laws.proofs.PrefixLaws.{whole_IsPrefix}
 use Rattle.run_events.specs.declared.event.Event.{Event}
 use Rattle.run_events.specs.declared.finding.Kind.TheVariants.{Cover}
 use Rattle.machine_model.specs.Image.{flat_image}
-use Rattle.machine_model.specs.State.{started}
-use Rattle.machine_model.specs.Run.{run_from}
-use Rattle.analysis_model.specs.Made.{make_of, kind_made_of, code_made_of}
-use Rattle.analysis_model.specs.Report.{Facts, head_text, run_facts, part_text, text}
-use Rattle.rv_machine.specs.Recorder.{Recorder}
-use Rattle.rv_machine.specs.declared.phase.Phase.TheVariants.{Running}
-use Rattle.after_cli.specs.Passing.{released_bytes}
-use Rattle.after_cli.specs.Job.{cover_job, run_text}
+use Rattle.analysis_model.specs.Made.{kind_made_of, code_made_of}
+use Rattle.analysis_model.specs.Report.{Facts, head_text, part_text, run_facts, text}
+use Rattle.analysis_set.specs.declared.analysis.AnyAnalysis.{AnyAnalysis}
+use Rattle.analysis_set.specs.declared.head.RunFacts.{RunFacts}
+use Rattle.analysis_set.specs.Analysis.{HasSeen, made_of}
+use Rattle.analysis_set.specs.Head.{facts_of}
+use Rattle.guard_run.specs.declared.closing.Closing.{Closing}
+use Rattle.guard_run.specs.Closings.{ClosesFront, ClosesWhole, facts_at}
+use Rattle.guard_run.specs.Course.{Course, IsCourse, run_of, log_of, released_bytes}
+use Rattle.guard_run.proofs.ClosingLaws.{whole_facts}
+use Rattle.after_cli.specs.Job.{course_of, cover_job, report_text}
+use Rattle.after_cli.specs.JobEnds.{IsWholeRun}
 
--- the text of a job, from what its analysis was made of and its finished run
-text-cover_job : (file : List ℕ) (ram_kib limit : ℕ) → text (cover_job file ram_kib limit) ≡ run_text (make_of Cover (flat_image file)) (run_from limit (started (flat_image file) ram_kib))
+-- the text of a job, from its course
+pub text-cover_job : (file : List ℕ) (ram_kib limit : ℕ) → released_bytes (course_of (cover_job file ram_kib limit)) ++ report_text (course_of (cover_job file ram_kib limit)) ≡ text (cover_job file ram_kib limit)
 text-cover_job file ram_kib limit =
-    let made = make_of Cover (flat_image file) in
-    let run = run_from limit (started (flat_image file) ram_kib) in
-    ap (λ l. released_bytes made run ++ (head_text (run_facts (code_made_of made) run (Cover ∷ [])) ++ l)) (append-nil (part_text (code_made_of made) run.events Cover))
-
-pub text_by_machine : (file : List ℕ) (ram_kib limit : ℕ) (made : List ℕ) (machine : Recorder) → made ≡ make_of Cover (flat_image file) → machine ≡ record { cpu = started (flat_image file) ram_kib; left = limit; phase = Running }
-    → run_text made (run_from machine.left machine.cpu) ≡ text (cover_job file ram_kib limit)
-text_by_machine file ram_kib limit made machine made_is machine_is = (λ i. run_text (made_is i) (run_from (machine_is i).left (machine_is i).cpu)) ∙ sym (text-cover_job file ram_kib limit)
+    let c = course_of (cover_job file ram_kib limit) in
+    sym (ap (λ l. released_bytes c ++ (head_text (run_facts (code_made_of c.made) (run_of c) (kind_made_of c.made ∷ [])) ++ l)) (append-nil (part_text (code_made_of c.made) (run_of c).events Cover)))
 
 -- the same report from the same facts
-pub report_same : (made now : List ℕ) (h : List Event) (told facts : Facts) → told ≡ facts → now ≡ made
+report_same : (made now : List ℕ) (h : List Event) (told facts : Facts) → told ≡ facts → now ≡ made
     → head_text told ++ part_text (code_made_of now) h (kind_made_of now) ≡ head_text facts ++ part_text (code_made_of made) h (kind_made_of made)
 report_same made now h told facts facts_are made_is = λ i. head_text (facts_are i) ++ part_text (code_made_of (made_is i)) h (kind_made_of (made_is i))
+
+-- a job that may be run has a course
+pub has_course : (file : List ℕ) (ram_kib limit : ℕ) → limit ≤ 1000000000 → IsCourse (course_of (cover_job file ram_kib limit))
+has_course file ram_kib limit few = record { first = refl; limit = few; cap = omega arith }
+
+-- the closing of a run that went to its end is one of the whole job, and of a front of it
+pub whole_run : (file : List ℕ) (ram_kib limit : ℕ) → limit ≤ 1000000000 → (closing : Closing) → ClosesWhole (course_of (cover_job file ram_kib limit)) closing → IsWholeRun (cover_job file ram_kib limit) closing
+whole_run file ram_kib limit few closing whole = record { closes = whole; facts_are = whole_facts (course_of (cover_job file ram_kib limit)) (has_course file ram_kib limit few) closing whole }
+
+pub whole_front : (c : Course) (closing : Closing) → ClosesWhole c closing → ClosesFront c closing
+whole_front c closing whole = record { items = log_of c; front = whole_IsPrefix (log_of c); closes = whole.closes }
+
+-- the report of a closing, in the words of its course
+some_same : (a b : Facts) → ◌≡◌ {A = Option Facts} (Some a) (Some b) → a ≡ b
+some_same a b e = cc
+
+pub told_report : (c : Course) → IsCourse c → (closing : Closing) → ClosesWhole c closing → (told : RunFacts) → Some told ≡ facts_at closing → (analysis : AnyAnalysis) → analysis ≡ closing.replica.analysis
+    → head_text (facts_of told) ++ part_text (code_made_of (made_of analysis)) (run_of c).events (kind_made_of (made_of analysis)) ≡ report_text c
+told_report c is closing whole told told_is analysis analysis_is =
+    let facts = run_facts (code_made_of c.made) (run_of c) (kind_made_of c.made ∷ []) in
+    report_same c.made (made_of analysis) (run_of c).events (facts_of told) facts (some_same (facts_of told) facts (ap (option_map facts_of) told_is ∙ whole_facts c is closing whole)) (ap made_of analysis_is ∙ whole.closes.made)
+
+pub told_seen : (c : Course) (closing : Closing) → ClosesWhole c closing → (analysis : AnyAnalysis) → analysis ≡ closing.replica.analysis → HasSeen analysis (run_of c).events
+told_seen c closing whole analysis is = subst (λ a. HasSeen a (run_of c).events) (sym is) whole.all

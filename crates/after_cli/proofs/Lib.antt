@@ -1,7 +1,5 @@
-mod AnswerLaws
-mod CompleteLaws
-mod DefaultJob
-mod HandingLaws
-mod InputLaws
-mod ItemLoop
-mod JobLaws
+pub mod AnswerLaws
+pub mod CompleteLaws
+pub mod DefaultJob
+pub mod InputLaws
+pub mod JobLaws

@@ -1,5 +1,5 @@
 -- What the top call answers, and the cause of each answer.
-use Rattle.std.specs.Prelude.{◌≡◌, ◌⊎◌, ◌≤◌, ℕ, ◌==◌, false, List, [], length, Option, Some, codes, if◌then◌else◌}
+use Rattle.std.specs.Prelude.{◌≡◌, ◌⊎◌, ◌≤◌, ℕ, ◌==◌, false, List, [], length, Option, Some, codes, if◌then◌else◌, IsSomeAnd}
 use Rattle.after_edge.specs.Fault.{Rose}
 use Rattle.after_edge.specs.Files.{Contents}
 use Rattle.after_edge.specs.Sink.{Adds, AddsPart}
@@ -8,6 +8,8 @@ use Rattle.analysis_model.specs.Report.{line, text}
 use Rattle.after_cli.specs.declared.inputs.TheConstants.{IMAGE_MAX}
 use Rattle.after_cli.specs.Inputs.{AreInputs, AreNotBuilt, HaveFailed, is_elf}
 use Rattle.after_cli.specs.Job.{default_job}
+use Rattle.guard_run.specs.declared.closing.Closing.{Closing}
+use Rattle.after_cli.specs.JobEnds.{IsCutRun, IsWholeRun}
 use Rattle.after_cli.specs.Words.{NamesRun, NamesNoRun}
 
 -- the words name a run that is built, whose files were read; this is the file of its guest
@@ -17,20 +19,23 @@ pub record IsRunOf (content : Option Contents) (words : List (List ℕ)) (file :
   pub named : NamesRun words image script
   pub inputs : AreInputs content image script file
 
--- 0, 1, 8, 11: a run was done. The bytes added to the output are the text of its job, no more and no less, and the
--- status is the job's.
-pub record IsDone {S : Type 0} (content : Option Contents) (words : List (List ℕ)) (holds : S → List ℕ → Type 0) (old new : S) (number : ℕ) : Type 0 where
+-- 0, 1, 8, 11: a run was done. The bytes added to the output are the text of its job, no more and no less, the status is
+-- the job's, and the closing holds the job's whole log, which was taken, each record once and in order.
+pub record IsDone {S : Type 0} (content : Option Contents) (words : List (List ℕ)) (holds : S → List ℕ → Type 0) (old new : S) (number : ℕ) (closing : Option Closing) : Type 0 where
   pub file : List ℕ
   pub run : IsRunOf content words file
   pub written : Adds holds old new (text (default_job file))
   pub status_is : number ≡ status (default_job file)
+  pub closing_is : IsSomeAnd closing (IsWholeRun (default_job file))
 
--- 6: a put of the output failed, and some front of the job's text was added
-pub record OutputHasFailed {S : Type 0} (content : Option Contents) (words : List (List ℕ)) (holds : S → List ℕ → Type 0) (faults : S → ℕ) (old new : S) : Type 0 where
+-- 6: a put of the output failed, and some front of the job's text was added; the closing holds a front of the job's log,
+-- which was taken, each record once and in order
+pub record OutputHasFailed {S : Type 0} (content : Option Contents) (words : List (List ℕ)) (holds : S → List ℕ → Type 0) (faults : S → ℕ) (old new : S) (closing : Option Closing) : Type 0 where
   pub file : List ℕ
   pub run : IsRunOf content words file
   pub written : AddsPart holds old new (text (default_job file))
   pub rose : Rose (faults old) (faults new)
+  pub closing_is : IsSomeAnd closing (IsCutRun (default_job file))
 
 -- 5: the files of a run failed, or they tell that one is absent
 pub record FilesHaveFailed (content : Option Contents) (words : List (List ℕ)) (before now : ℕ) : Type 0 where

@@ -1,12 +1,12 @@
--- The job of a run that is built, and what a run of it comes to.
+-- The job of a run that is built, and the course that a run of it takes.
 use Rattle.std.specs.Prelude.{ℕ, List, [], ◌∷◌, ◌++◌}
 use Rattle.run_events.specs.declared.finding.Kind.TheVariants.{Cover}
 use Rattle.machine_model.specs.Image.{flat_image}
-use Rattle.machine_model.specs.Run.{Finished}
+use Rattle.machine_model.specs.State.{started}
 use Rattle.analysis_model.specs.Job.{Job, status_of, has_finding}
-use Rattle.analysis_model.specs.Made.{kind_made_of, code_made_of}
+use Rattle.analysis_model.specs.Made.{make_of, kind_made_of, code_made_of}
 use Rattle.analysis_model.specs.Report.{head_text, run_facts, part_text}
-use Rattle.after_cli.specs.Passing.{released_bytes}
+use Rattle.guard_run.specs.Course.{Course, run_of}
 
 -- a flat guest with this RAM size in KiB and this limit in steps, with coverage, which is required
 abbrev pub cover_job : List ℕ → ℕ → ℕ → Job
@@ -16,9 +16,13 @@ cover_job file ram_kib limit = record { image = flat_image file; ram_kib = ram_k
 unfoldable pub default_job : List ℕ → Job
 default_job file = cover_job file 1024 10000000
 
--- what a finished run writes and ends with, one analysis of this make being chosen and required
-abbrev pub run_text : List ℕ → Finished → List ℕ
-run_text made run = released_bytes made run ++ (head_text (run_facts (code_made_of made) run (kind_made_of made ∷ [])) ++ part_text (code_made_of made) run.events (kind_made_of made))
+-- the course of a run of it, with a log of 1,024 places
+abbrev pub course_of : Job → Course
+course_of job = record { start = started job.image job.ram_kib; limit = job.limit; cap = 1024; made = make_of Cover job.image }
 
-abbrev pub run_status : List ℕ → Finished → ℕ
-run_status made run = status_of run.cause (has_finding (code_made_of made) run.events (kind_made_of made ∷ []))
+-- the report of a course, and its status
+abbrev pub report_text : Course → List ℕ
+report_text c = head_text (run_facts (code_made_of c.made) (run_of c) (kind_made_of c.made ∷ [])) ++ part_text (code_made_of c.made) (run_of c).events (kind_made_of c.made)
+
+abbrev pub status_at : Course → ℕ
+status_at c = status_of (run_of c).cause (has_finding (code_made_of c.made) (run_of c).events (kind_made_of c.made ∷ []))

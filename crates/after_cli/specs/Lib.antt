@@ -1,9 +1,6 @@
 pub mod Answer
-pub mod Bytes
-pub mod Handing
 pub mod Inputs
 pub mod Job
-pub mod JobFault
+pub mod JobEnds
 pub mod Means
-pub mod Passing
 pub mod Words

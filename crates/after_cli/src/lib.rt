@@ -2,7 +2,6 @@
 #![tactic(auto)]
 
 mod command_words;
-mod guard_run;
 mod inputs;
 mod running;
 mod top;

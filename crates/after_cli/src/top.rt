@@ -1,12 +1,13 @@
-ghost use Rattle.std.specs.Prelude.{◌≡◌, ◌≤◌, ℕ, List, map, string_bytes};
+ghost use Rattle.std.specs.Prelude.{◌≡◌, ◌≤◌, ℕ, List, None, map, string_bytes};
 ghost use Rattle.after_cli.specs.Answer.{IsDone, OutputHasFailed, FilesHaveFailed, IsNotBuilt, IsOfDone, IsOfRefusal, IsStatus, IsToldRun, IsWhole, TellsLine, line_of};
 ghost use Rattle.after_edge.specs.Fault.{Rose};
-ghost use Rattle.after_cli.specs.Means.{Means, number_of, answer_to};
+ghost use Rattle.after_cli.specs.Means.{Means, answer_of, answer_to, closing_in, number_of};
 
 use crate::command_words::run_words;
 use crate::inputs::{Refusal, read_inputs};
-use crate::running::{JobFault, run_job};
+use crate::running::{JobEnd, run_job};
 use after_edge::{Files, Sink};
+use guard_run::Closing;
 use std::alloc::Global;
 
 /// The RAM of a guest, in KiB.
@@ -16,32 +17,53 @@ const RAM_KIB: u32 = 1024;
 const LIMIT: u32 = 10_000_000;
 
 /// What a call of the program comes to.
-#[derive(Clone, Copy, Debug, PartialEq, Eq)]
+#[derive(Drop)]
 pub struct Outcome {
     /// The exit status.
     pub status: u8,
+    /// What a run has left; none where no run was opened.
+    pub closing: Option<Closing>,
 }
 
 // What the words and the files come to.
-#[derive(Clone, Copy)]
+#[derive(Drop)]
 enum Answer {
-    Done { status: u8 },
+    Done { status: u8, closing: Closing },
     FilesFailed,
-    OutputFailed,
+    OutputFailed { closing: Closing },
     NoMemory,
     NotBuilt,
 }
 
 impl Answer {
-    fn status(self) -> u8
-        ensures { result ≡ number_of self }
+    fn status(&self) -> u8
+        ensures { result ≡ number_of self.now }
     {
         match self {
-            Answer::Done { status } => status,
+            Answer::Done { status, .. } => *status,
             Answer::FilesFailed => 5,
-            Answer::OutputFailed => 6,
+            Answer::OutputFailed { .. } => 6,
             Answer::NoMemory => 9,
             Answer::NotBuilt => 10,
+        }
+    }
+
+    fn closing(self) -> Option<Closing>
+        ensures { result ≡ closing_in self }
+    {
+        match self {
+            Answer::Done { closing, .. } | Answer::OutputFailed { closing } => Some(closing),
+            Answer::FilesFailed | Answer::NoMemory | Answer::NotBuilt => None,
+        }
+    }
+
+    fn of_job(end: JobEnd) -> Answer
+        ensures { result ≡ answer_of end }
+    {
+        match end {
+            JobEnd::Done { status, closing } => Answer::Done { status, closing },
+            JobEnd::OutputFailed { closing } => Answer::OutputFailed { closing },
+            JobEnd::NoMemory => Answer::NoMemory,
         }
     }
 
@@ -75,18 +97,12 @@ fn answer_words<F: Files, O: Sink>(
         Ok(file) => file,
         Err(refusal) => return Answer::of_refusal(refusal),
     };
-    match run_job(alloc, file, RAM_KIB, LIMIT, out) {
-        Ok(status) => Answer::Done { status },
-        Err(JobFault::NoMemory) => Answer::NoMemory,
-        Err(JobFault::OutputFailed) => Answer::OutputFailed,
-    }
+    Answer::of_job(run_job(alloc, file, RAM_KIB, LIMIT, out))
 }
 
-/// The end of a call with this status: it writes the status' line, if it has one. A failure to write it changes
-/// nothing else.
+// Writes the line of a status, if it has one. A failure to write it changes nothing else.
 #[tactic(auto, unfolding(crate::specs::Answer::line_of))]
-pub fn end_with<E: Sink>(status: u8, err: &mut E) -> Outcome
-    ensures status { result.status ≡ status }
+fn tell_status<E: Sink>(status: u8, err: &mut E)
     ensures told { TellsLine E.holds E.faults err.old err.new (line_of status) }
     ensures quiet { IsOfDone status → err.new ≡ err.old }
 {
@@ -95,10 +111,23 @@ pub fn end_with<E: Sink>(status: u8, err: &mut E) -> Outcome
         6 => b"output failed\n",
         9 => b"no memory\n",
         10 => b"not built\n",
-        _ => return Outcome { status },
+        _ => return,
     };
     let _ = err.put(line);
-    Outcome { status }
+}
+
+/// The end of a call with this status that has opened no run: it writes the status' line, if it has one.
+pub fn end_with<E: Sink>(status: u8, err: &mut E) -> Outcome
+    ensures status { result.status ≡ status }
+    ensures closing { result.closing ≡ None }
+    ensures told { TellsLine E.holds E.faults err.old err.new (line_of status) }
+    ensures quiet { IsOfDone status → err.new ≡ err.old }
+{
+    tell_status(status, err);
+    Outcome {
+        status,
+        closing: None,
+    }
 }
 
 /// The program on one thread: the words of a command line, and the files and sinks of its outside.
@@ -113,6 +142,10 @@ pub fn end_with<E: Sink>(status: u8, err: &mut E) -> Outcome
 /// - 9: want of memory, which nothing causes. Nothing was added to `out`.
 /// - 10: the words or the files are not those of a run that is built. Nothing was added to `out`.
 ///
+/// `closing` is there exactly where a run was opened: with the statuses of a run that was done, and with 6. It holds the
+/// one log and what the replica has made of it. After a failed put the log was closed at once, at what had been appended,
+/// no further put was made, and the replica has read to the close.
+///
 /// A refusal, and status 6, writes its line on `err`; a failure of `err` changes no answer. No file is changed.
 pub fn aftersight_plain<F: Files, O: Sink, E: Sink>(
     alloc: Global,
@@ -123,11 +156,12 @@ pub fn aftersight_plain<F: Files, O: Sink, E: Sink>(
 ) -> Outcome
     ensures status { IsStatus result.status }
 
-    // The run was done: what was added to the output is the text of its job, and the status is the job's.
-    ensures done { IsOfDone result.status → IsDone (F.content files.old) (map string_bytes words.now) O.holds out.old out.new result.status }
+    // The run was done: what was added to the output is the text of its job, the status is the job's, and the closing
+    // holds the job's log, which the replica has taken, each record once and in order.
+    ensures done { IsOfDone result.status → IsDone (F.content files.old) (map string_bytes words.now) O.holds out.old out.new result.status result.closing }
 
     // Each other status has its cause.
-    ensures output_failed { result.status ≡ 6 → OutputHasFailed (F.content files.old) (map string_bytes words.now) O.holds O.faults out.old out.new }
+    ensures output_failed { result.status ≡ 6 → OutputHasFailed (F.content files.old) (map string_bytes words.now) O.holds O.faults out.old out.new result.closing }
     ensures files_failed { result.status ≡ 5 → FilesHaveFailed (F.content files.old) (map string_bytes words.now) (F.faults files.old) (F.faults files.new) }
     ensures not_built { result.status ≡ 10 → IsNotBuilt (F.content files.old) (map string_bytes words.now) }
 
@@ -138,10 +172,16 @@ pub fn aftersight_plain<F: Files, O: Sink, E: Sink>(
 
     // What stands afterwards.
     ensures refused { IsOfRefusal result.status → out.new ≡ out.old }
+    ensures unopened { IsOfRefusal result.status → result.closing ≡ None }
     ensures told { TellsLine E.holds E.faults err.old err.new (line_of result.status) }
     ensures quiet { IsOfDone result.status → err.new ≡ err.old }
     ensures files { F.content files.new ≡ F.content files.old }
 {
     let answer = answer_words(alloc, words, files, out);
-    end_with(answer.status(), err)
+    let status = answer.status();
+    tell_status(status, err);
+    Outcome {
+        status,
+        closing: answer.closing(),
+    }
 }

@@ -1,16 +1,48 @@
-use Rattle.after_edge.proofs.SinkLaws.{Adds-same, AddsPart-same}
-use Rattle.analysis_set.specs.Analysis.{made_of}
-use Rattle.after_cli.proofs.JobLaws.{text_by_machine}
+use Rattle.std.proofs.Common.{◌≡◌, ◌≤◌, ◌++◌, ◌∙◌, arith}
+use Rattle.after_edge.proofs.SinkLaws.{Adds-same, Adds-then, AddsPart-more, AddsPart-same, AddsPart-then}
+use Rattle.guard_run.specs.Course.{released_bytes}
+use Rattle.after_cli.specs.Job.{course_of, cover_job, report_text}
+use Rattle.after_cli.proofs.JobLaws.{text-cover_job, has_course, whole_run, whole_front}
 use Rattle.after_cli.proofs.running.run_job.Goals as goal
 
-pub returns-in-Ok-run_opened-clause-ok : goal.returns-in-Ok-run_opened-clause-ok
-returns-in-Ok-run_opened-clause-ok g c =
-    Adds-same g.O.Sink.holds c.args.out.now c.run_opened.new.out
-    (text_by_machine c.args.file.items c.args.ram_kib c.args.limit (made_of c.in-Ok.opened.analysis) c.in-Ok.opened.machine c.in-Ok.ensures.made c.in-Ok.ensures.machine) c.in-Ok-run_opened.ensures.ok
+pub returns-in-Err-ran-clause-end : goal.returns-in-Err-ran-clause-end
+returns-in-Err-ran-clause-end g c =
+    let of = course_of (cover_job c.args.file.items c.args.ram_kib c.args.limit) in
+    let stopped = c.in-Err-ran.ensures.err of c.in-Ok.ensures in
+    record {
+      written = AddsPart-same g.O.Sink.holds c.args.out.now c.run_turns-ran.new.out (text-cover_job c.args.file.items c.args.ram_kib c.args.limit)
+          (AddsPart-more g.O.Sink.holds c.args.out.now c.run_turns-ran.new.out (released_bytes of) (report_text of) stopped.put);
+      rose = c.in-Err-ran.ensures.cause;
+      closing_is = c.finish-closing.ensures.front of stopped.stopped;
+    }
 
-pub returns-clause-cause : goal.returns-clause-cause
-returns-clause-cause g c = (
-  AddsPart-same g.O.Sink.holds c.args.out.now c.run_opened.new.out
-      (text_by_machine c.args.file.items c.args.ram_kib c.args.limit (made_of c.in-Ok.opened.analysis) c.in-Ok.opened.machine c.in-Ok.ensures.made c.in-Ok.ensures.machine) c.in-Err-run_opened.ensures.err,
-  c.in-Err-run_opened.ensures.cause,
-)
+pub tell-requires : goal.tell-requires
+tell-requires g c = record {
+  of = course_of (cover_job c.args.file.items c.args.ram_kib c.args.limit);
+  course = has_course c.args.file.items c.args.ram_kib c.args.limit c.requires.steps;
+  whole = c.finish-closing.ensures.whole (course_of (cover_job c.args.file.items c.args.ram_kib c.args.limit)) (c.in-Ok-ran.ensures.ok (course_of (cover_job c.args.file.items c.args.ram_kib c.args.limit)) c.in-Ok.ensures).ended;
+}
+
+pub returns-in-Ok-tell-clause-end : goal.returns-in-Ok-tell-clause-end
+returns-in-Ok-tell-clause-end g c =
+    let of = course_of (cover_job c.args.file.items c.args.ram_kib c.args.limit) in
+    let course = has_course c.args.file.items c.args.ram_kib c.args.limit c.requires.steps in
+    let closed = c.finish-closing.ensures.whole (course_of (cover_job c.args.file.items c.args.ram_kib c.args.limit)) (c.in-Ok-ran.ensures.ok (course_of (cover_job c.args.file.items c.args.ram_kib c.args.limit)) c.in-Ok.ensures).ended in
+    record {
+      written = Adds-same g.O.Sink.holds c.args.out.now c.tell.new.out (text-cover_job c.args.file.items c.args.ram_kib c.args.limit)
+          (Adds-then g.O.Sink.holds c.args.out.now c.run_turns-ran.new.out c.tell.new.out (released_bytes of) (report_text of) (c.in-Ok-ran.ensures.ok of c.in-Ok.ensures).put (c.in-Ok-tell.ensures.ok of course closed));
+      status_is = c.in-Ok-tell.ensures.status of course closed;
+      closing_is = whole_run c.args.file.items c.args.ram_kib c.args.limit c.requires.steps c.finish-closing.result closed;
+    }
+
+pub returns-in-Err-tell-clause-end : goal.returns-in-Err-tell-clause-end
+returns-in-Err-tell-clause-end g c =
+    let of = course_of (cover_job c.args.file.items c.args.ram_kib c.args.limit) in
+    let course = has_course c.args.file.items c.args.ram_kib c.args.limit c.requires.steps in
+    let closed = c.finish-closing.ensures.whole (course_of (cover_job c.args.file.items c.args.ram_kib c.args.limit)) (c.in-Ok-ran.ensures.ok (course_of (cover_job c.args.file.items c.args.ram_kib c.args.limit)) c.in-Ok.ensures).ended in
+    record {
+      written = AddsPart-same g.O.Sink.holds c.args.out.now c.tell.new.out (text-cover_job c.args.file.items c.args.ram_kib c.args.limit)
+          (AddsPart-then g.O.Sink.holds c.args.out.now c.run_turns-ran.new.out c.tell.new.out (released_bytes of) (report_text of) (c.in-Ok-ran.ensures.ok of c.in-Ok.ensures).put (c.in-Err-tell.ensures.err of course closed));
+      rose = omega (arith, c.in-Err-tell.ensures.cause, c.run_turns-ran.ensures.later);
+      closing_is = whole_front of c.finish-closing.result closed;
+    }

@@ -1,1 +1,0 @@
--- A hub whose one reader has taken all.

@@ -1,0 +1,47 @@
+-- What a run of a job leaves, and what each end of it means.
+use Rattle.std.specs.Prelude.{◌≡◌, ℕ, List, Option, Some, option_map}
+use Rattle.after_edge.specs.Fault.{Rose}
+use Rattle.after_edge.specs.Sink.{Adds, AddsPart}
+use Rattle.analysis_model.specs.Job.{Job, status}
+use Rattle.analysis_model.specs.Report.{facts, text}
+use Rattle.analysis_set.specs.Head.{facts_of}
+use Rattle.guard_run.specs.declared.closing.Closing.{Closing}
+use Rattle.guard_run.specs.Closings.{ClosesFront, ClosesWhole, facts_at}
+use Rattle.guard_run.specs.Course.{Course, IsCourse}
+use Rattle.after_cli.specs.declared.running.JobEnd.{JobEnd}
+use Rattle.after_cli.specs.declared.running.JobEnd.TheVariants.{Done, OutputFailed, NoMemory}
+use Rattle.after_cli.specs.Job.{course_of}
+
+-- some course is that of a closing whose run went to its end
+pub record IsWhole (closing : Closing) : Type 0 where
+  pub of : Course
+  pub course : IsCourse of
+  pub whole : ClosesWhole of closing
+
+-- A run without a sink fault: the one list is the log of the job. It was appended and taken, each record once and in
+-- order, and then closed; the analysis has seen all events of the run; the facts are the job's.
+pub record IsWholeRun (job : Job) (closing : Closing) : Type 0 where
+  pub closes : ClosesWhole (course_of job) closing
+  pub facts_are : option_map facts_of (facts_at closing) ≡ Some (facts job)
+
+-- a run with a sink fault: the one list is a front of the log of the job
+abbrev pub IsCutRun : Job → Closing → Type 0
+IsCutRun job closing = ClosesFront (course_of job) closing
+
+-- the whole text of the job was written, and the status is the job's
+pub record IsDoneJob {S : Type 0} (holds : S → List ℕ → Type 0) (old new : S) (job : Job) (number : ℕ) (closing : Closing) : Type 0 where
+  pub written : Adds holds old new (text job)
+  pub status_is : number ≡ status job
+  pub closing_is : IsWholeRun job closing
+
+-- a put failed, as the count of the sink shows, and some front of the text was written
+pub record HasFailedOutput {S : Type 0} (holds : S → List ℕ → Type 0) (faults : S → ℕ) (old new : S) (job : Job) (closing : Closing) : Type 0 where
+  pub written : AddsPart holds old new (text job)
+  pub rose : Rose (faults old) (faults new)
+  pub closing_is : IsCutRun job closing
+
+-- want of memory comes before anything is written, and has no cause
+abbrev pub JobEnds : {S : Type 0} → (S → List ℕ → Type 0) → (S → ℕ) → S → S → Job → JobEnd → Type 0
+JobEnds holds faults old new job (Done number closing) = IsDoneJob holds old new job number closing
+JobEnds holds faults old new job (OutputFailed closing) = HasFailedOutput holds faults old new job closing
+JobEnds holds faults old new job NoMemory = new ≡ old
