@@ -49,6 +49,8 @@ fn expect(
     let outcome = aftersight_plain(alloc, &words, files, &mut out, &mut err);
     let (status, text, told) = want;
     assert_eq!(rt; outcome.status, status, "the status of {words:?}");
+    let is_opened = outcome.closing.is_some();
+    assert_eq!(rt; is_opened, told.is_empty(), "the closing of {words:?}");
     assert!(rt; out.bytes() == text.as_bytes(), "the text of {words:?}");
     assert!(rt; err.bytes() == told.as_bytes(), "the line of {words:?}");
     Ok(())
@@ -121,20 +123,21 @@ fn other_words_are_refused(rt: HostRuntime) -> Result<(), Fail> {
 #[test]
 fn sinks_fail(rt: HostRuntime) -> Result<(), Fail> {
     let alloc = rt.alloc();
-    // the failing put of the output, after how many bytes, and what was written
+    // the failing put of the output, after how many bytes, what was written, and how many records were appended
     let rows = [
-        (1, 0, ""),
-        (2, 0, "H"),
-        (2, 1, "H\n"),
-        (3, 5, "H\n== af"),
+        (1, 0, "", 1u64),
+        (2, 0, "H", 2),
+        (2, 1, "H\n", 2),
+        (3, 5, "H\n== af", 2),
         (
             9,
             2,
             "H\n== aftersight report\nsteps 5\nend power 0\noutput 1 released 1\nrecords 2\ncover findings 0 first none\nco",
+            2,
         ),
     ];
     let words = words_of(alloc, &RUN)?;
-    for (put, after, text) in rows {
+    for (put, after, text, records) in rows {
         let mut files = files_of(alloc, Some(&guests::HELLO), Some(&[]))?;
         let mut out = sink_of(alloc, vec![in alloc; (put, after)]?)?;
         let mut err = sink_of(alloc, Vec::new(alloc))?;
@@ -148,6 +151,15 @@ fn sinks_fail(rt: HostRuntime) -> Result<(), Fail> {
             err.bytes() == "output failed\n".as_bytes(),
             "put {put} fails after {after}"
         );
+        match outcome.closing {
+            Some(closing) => {
+                assert_eq!(rt; closing.appended(), records, "put {put}: appended");
+                assert_eq!(rt; closing.taken(0), records, "put {put}: taken");
+                let is_ended = closing.facts().is_some();
+                assert_eq!(rt; is_ended, records == 2, "put {put}: the end");
+            }
+            None => panic!(rt; "put {put}: no closing"),
+        }
     }
     Ok(())
 }
