@@ -1,5 +1,4 @@
 mod Examples
 pub mod MadeLaws
 pub mod FirstLaws
-pub mod ReleaseLaws
 pub mod StopLaws

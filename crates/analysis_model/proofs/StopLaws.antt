@@ -1,5 +1,4 @@
--- Whether a step is let out, by what an analysis has found up to it: the stop looks at the whole run, a replica at the
--- events that it has seen.
+-- Where the first finding of later events stands.
 use Rattle.std.proofs.Common.{◌≡◌, ℕ, ◌+◌, ◌<◌, ◌≤◌, min, List, [], ◌∷◌, ◌++◌, Option, Some, None, ap, ◌∙◌, arith}
 use Rattle.std.specs.Prelude.{IfSome, is_some, unwrap_or, not, nat_lt}
 use Rattle.std.specs.List.{filter_map, cons_option, AllByRecursion}
@@ -33,18 +32,3 @@ first_from Heap code n events from = tt
 first_from Taint code n events from = tt
 first_from Calls code n events from = tt
 first_from Locks code n events from = tt
-
-let_out_by : (step steps : ℕ) (old new : Option ℕ) → IfSome old (λ f. f < step + 1) → IfSome new (λ f. step + 1 ≤ f) → step + 1 ≤ steps
-    → nat_lt step (min (unwrap_or old (unwrap_or new steps)) steps) ≡ not (is_some old)
-let_out_by step steps (Some f) new below from le = grind (arith, below)
-let_out_by step steps None (Some f) below from le = grind (arith, from, le)
-let_out_by step steps None None below from le = grind (arith, le)
-
--- the step of the last event seen is let out exactly where the analysis has found nothing yet
-pub let_out_here : (kind : Kind) (code : List Span) (run : Finished) (seen rest : List Event) (step : ℕ) → run.events ≡ seen ++ rest → Below (step + 1) seen → From (step + 1) rest → step + 1 ≤ run.steps
-    → nat_lt step (least_refused code run (kind ∷ [])) ≡ not (is_some (first_step (findings kind code seen)))
-let_out_here kind code run seen rest step is below from le =
-    let all : unwrap_or (first_step (findings kind code run.events)) run.steps ≡ unwrap_or (first_step (findings kind code seen)) (unwrap_or (first_step (findings kind code rest)) run.steps)
-    = ap (λ l. unwrap_or (first_step (findings kind code l)) run.steps) is ∙ ap (λ l. unwrap_or (first_step l) run.steps) (findings-append kind code seen rest) ∙ first_step-append (findings kind code seen) (findings kind code rest) run.steps in
-    ap (λ n. nat_lt step (min n run.steps)) all
-    ∙ let_out_by step run.steps (first_step (findings kind code seen)) (first_step (findings kind code rest)) (first_below kind code (step + 1) seen below) (first_from kind code (step + 1) rest from) le

@@ -32,9 +32,3 @@ IsLoadable size (segment ∷ segments) = InRam size segment.address (length segm
 -- RAM as the guest finds it: zero but for the image
 unfoldable pub ram_at_start : Image → ℕ → List ℕ
 ram_at_start image ram_kib = ram_with image.segments (replicate (1024 * ram_kib) 0)
-
--- an image that some file gives for a RAM of this many KiB
-pub record IsReadFor (image : Image) (ram_kib : ℕ) : Type 0 where
-  pub file : List ℕ
-  pub given : image ≡ flat_image file
-  pub fits : length file ≤ 1024 * ram_kib
