@@ -7,7 +7,7 @@ use base.Stored.{coded_unit}
 use Rattle.run_events.specs.declared.record.EndCause.{EndCause}
 use Rattle.run_events.specs.declared.record.EndCause.TheVariants.{Power, Limit, Stuck}
 use Rattle.run_events.specs.declared.record.Record.TheVariants.{End}
-use Rattle.run_events.specs.Record.{IsRecord}
+use Rattle.run_events.specs.Record.{IsRecord, number}
 use Rattle.machine_model.specs.State.{State, state_code}
 use Rattle.machine_model.specs.Run.{run_from}
 use Rattle.machine_model.specs.Items.{Item, items}
@@ -52,10 +52,11 @@ abbrev pub items_of : Option Given → List Item
 items_of None = []
 items_of (Some given) = item_of given ∷ []
 
--- this item is the next one
+-- this item is the next one, and the hart has done the steps below its number and no other
 pub record IsNext (item : Item) (before after : Recorder) : Type 0 where
   pub next : to_come before ≡ item ∷ to_come after
   pub is_record : IsRecord item.item
+  pub at : number item.item ≡ after.cpu.step
 
 -- one step was done that has no item behind it
 pub record GoesOn (before after : Recorder) : Type 0 where

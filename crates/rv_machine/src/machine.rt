@@ -84,7 +84,7 @@ impl Machine {
         })
     }
 
-    /// Runs on to the next record: at most 256 steps. It takes no memory.
+    /// Runs on to the next record and no further: at most 256 steps. It takes no memory.
     pub fn advance(&mut self) -> Advance
         ensures { Gives result self.old self.new }
     {
@@ -147,6 +147,7 @@ impl Machine {
         ensures given { item_of result ≡ end_item self.old.cpu.step cause }
         ensures record { IsRecord result.item }
         ensures over { self.new.phase ≡ Over }
+        ensures same { self.new.cpu ≡ self.old.cpu }
     {
         self.phase = Phase::Over;
         Given {

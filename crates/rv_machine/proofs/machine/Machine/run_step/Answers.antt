@@ -7,7 +7,7 @@ use Rattle.rv_machine.proofs.machine.Machine.run_step.Goals as goal
 
 pub returns-then-self-eq0 : goal.returns-then-self-eq0
 returns-then-self-eq0 c =
-    ends_at_limit (item_of c.end.result) c.args.self.now c.end.new.self c.requires (ap (λ m. m.left) (sym c.self.view_is) ∙ c.if-self-eq0.true) c.end.ensures.given c.end.ensures.record c.end.ensures.over
+    ends_at_limit (item_of c.end.result) c.args.self.now c.end.new.self c.requires (ap (λ m. m.left) (sym c.self.view_is) ∙ c.if-self-eq0.true) c.end.ensures.given c.end.ensures.record c.end.ensures.over c.end.ensures.same
 
 none_left : {X : Type 0} (o : Option X) (can : Bool) → can ≡ is_some o → can ≡ false → o ≡ None
 none_left None can is false_is = refl
@@ -20,7 +20,7 @@ more_left (suc n) some = omega arith
 pub returns-then-not-can_step : goal.returns-then-not-can_step
 returns-then-not-can_step c =
     ends_stuck (item_of c.end-then-not-can_step.result) (c.self.inside.left - 1) c.args.self.now c.end-then-not-can_step.new.self c.requires (ap (λ m. m.left) (sym c.self.view_is) ∙ more_left c.self.inside.left c.if-self-eq0.false)
-    (ap (λ m. step_from m.cpu) (sym c.self.view_is) ∙ none_left (step_from c.self.inside.cpu) c.can_step.result c.can_step.ensures c.if-not-can_step.true) c.end-then-not-can_step.ensures.given c.end-then-not-can_step.ensures.record c.end-then-not-can_step.ensures.over
+    (ap (λ m. step_from m.cpu) (sym c.self.view_is) ∙ none_left (step_from c.self.inside.cpu) c.can_step.result c.can_step.ensures c.if-not-can_step.true) c.end-then-not-can_step.ensures.given c.end-then-not-can_step.ensures.record c.end-then-not-can_step.ensures.over c.end-then-not-can_step.ensures.same
 
 pub returns : goal.returns
 returns c =
