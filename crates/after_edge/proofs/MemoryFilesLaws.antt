@@ -12,7 +12,7 @@ use Rattle.std.proofs.lemmas.Bool.{cond_below}
 use Rattle.std.proofs.lemmas.Bool.Decides.{nat_tests}
 use Rattle.list_laws.specs.Prefix.{IsPrefix}
 use Rattle.after_edge.specs.Files.{Contents, ChangesTold, Changes, IsBegun, MayBeBegun, IsAppended, MayBeAppended}
-use Rattle.after_edge.specs.MemoryFiles.{Kept, is_named, entry_of, file_of, changed, changed_or_added, begun, bytes_of, appended, passes_room, has_no_place}
+use Rattle.after_edge.specs.MemoryFiles.{Kept, is_named, entry_of, file_of, changed, changed_or_added, begun, bytes_of, appended, passes_room, has_no_place, HasRoom}
 
 -- the first entry that has the name stands at this place
 record IsFirst (text : List ℕ) (entries : List Kept) (index : ℕ) (entry : Kept) : Type 0 where
@@ -197,6 +197,12 @@ module _ (text : List ℕ) (entries slice : List Kept) (same : slice ≡ entries
 
   pub entry_of-missed : None ≡ position (is_named text) slice → entry_of entries text ≡ None
   entry_of-missed at = entry_of-no_place text entries (at_entries at)
+
+  pub room-found : (bytes index : ℕ) (entry : Kept) → Some index ≡ position (is_named text) slice → entry ≡ get_or entries index entry → HasRoom (entry_of entries text) bytes → bytes ≤ entry.room
+  room-found bytes index entry at is room = let P : Option Kept → Type 0 = λ found. HasRoom found bytes in subst P (entry_of-found index entry at is) room
+
+  pub room-missed : (bytes : ℕ) → None ≡ position (is_named text) slice → HasRoom (entry_of entries text) bytes → ⊥
+  room-missed bytes at room = let P : Option Kept → Type 0 = λ found. HasRoom found bytes in subst P (entry_of-missed at) room
 
   pub changed-found : (change : Kept → Kept) (index : ℕ) (entry after : Kept) → Some index ≡ position (is_named text) slice → entry ≡ get_or entries index entry → after ≡ change entry → set entries index after ≡ changed change text entries
   changed-found change index entry after at is then =

@@ -1,5 +1,5 @@
 -- What files in memory keep, and what each call does to it.
-use Rattle.std.specs.Prelude.{ℕ, ◌+◌, ◌-◌, ◌==◌, max, min, List, [], ◌∷◌, ◌++◌, length, take, Bool, true, ◌||◌, if◌then◌else◌, Option, Some, None, Result, Ok, Err, unwrap_or, is_some, is_none, nat_lt}
+use Rattle.std.specs.Prelude.{ℕ, ◌≤◌, ◌+◌, ◌-◌, ◌==◌, max, min, List, [], ◌∷◌, ◌++◌, length, take, Bool, true, ◌||◌, if◌then◌else◌, Option, Some, None, Result, Ok, Err, unwrap_or, is_some, is_none, nat_lt}
 use Rattle.std.specs.List.{find, list_any}
 use Rattle.std.specs.Option.{option_and_then}
 use Rattle.std.specs.Str.{bytes_eq}
@@ -66,6 +66,11 @@ appended piece entry = record { name = entry.name; file = Some (bytes_of entry +
 -- the piece passes the room
 abbrev pub passes_room : List ℕ → Kept → Bool
 passes_room piece entry = nat_lt entry.room (length (bytes_of entry) + length piece)
+
+-- the name has room for this many bytes
+abbrev pub HasRoom : Option Kept → ℕ → Type 0
+HasRoom None bytes = ⊥
+HasRoom (Some entry) bytes = bytes ≤ entry.room
 
 -- a file with these bytes, and room for them
 abbrev pub filled : List ℕ → Kept → Kept

@@ -1,6 +1,6 @@
-ghost use Rattle.std.specs.Prelude.{◌≡◌, ◌++◌, [], ◌∷◌, is_some, not, option_copied, OnOk, OnErr};
+ghost use Rattle.std.specs.Prelude.{◌≡◌, ◌++◌, [], ◌∷◌, is_some, not, option_copied, length, IsOk, OnOk, OnErr};
 ghost use Rattle.std.specs.List.{position};
-ghost use Rattle.after_edge.specs.MemoryFiles.{is_named, entry_of, file_of, changed, changed_or_added, with_room, with_no_file, filled, begun, appended, has_no_place};
+ghost use Rattle.after_edge.specs.MemoryFiles.{is_named, entry_of, file_of, changed, changed_or_added, with_room, with_no_file, filled, begun, appended, has_no_place, HasRoom};
 
 use crate::entry::Entry;
 use memory_map::NoMemory;
@@ -31,6 +31,7 @@ pub(crate) fn room_at(
     bytes: usize,
 ) -> Result<(), NoMemory>
     ensures ok { OnOk result (entries.new.items ≡ changed_or_added (with_room bytes) (with_no_file name.now bytes) name.now entries.old.items) }
+    ensures within { HasRoom (entry_of entries.old.items name.now) bytes → IsOk result }
     ensures err { OnErr result (entries.new.items ≡ entries.old.items) }
 {
     match place(entries, name) {
@@ -50,6 +51,7 @@ pub(crate) fn set_at(
     bytes: &[u8],
 ) -> Result<(), NoMemory>
     ensures ok { OnOk result (entries.new.items ≡ changed_or_added (filled bytes.now) (filled bytes.now (with_no_file name.now 0)) name.now entries.old.items) }
+    ensures within { HasRoom (entry_of entries.old.items name.now) (length bytes.now) → IsOk result }
     ensures err { OnErr result (entries.new.items ≡ entries.old.items) }
 {
     match place(entries, name) {

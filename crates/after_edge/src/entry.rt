@@ -1,4 +1,4 @@
-ghost use Rattle.std.specs.Prelude.{◌≡◌, ◌≤◌, ◌<◌, ◌+◌, ◌-◌, List, ℕ, [], ◌++◌, length, take, drop, min, max, not, vec_len, vec_capacity, if◌then◌else◌, Some, None, option_copied, IfOk, OnOk, OnErr};
+ghost use Rattle.std.specs.Prelude.{◌≡◌, ◌≤◌, ◌<◌, ◌+◌, ◌-◌, List, ℕ, [], ◌++◌, length, take, drop, min, max, not, vec_len, vec_capacity, if◌then◌else◌, Some, None, option_copied, IsOk, IfOk, OnOk, OnErr};
 ghost use Rattle.std.specs.Str.{bytes_eq};
 ghost use Rattle.std.specs.String.{string_bytes};
 ghost use Rattle.after_edge.specs.MemoryFiles.{Kept, with_no_file, with_room, begun, appended, passes_room, filled};
@@ -57,6 +57,7 @@ impl Entry {
     // Room for this many bytes at least.
     pub(crate) fn reserve(&mut self, room: usize) -> Result<(), NoMemory>
         ensures ok { OnOk result (self.new ≡ with_room room self.old) }
+        ensures within { room ≤ self.old.room → IsOk result }
         ensures err { OnErr result (self.new ≡ self.old) }
     {
         if room <= self.room {
@@ -94,6 +95,7 @@ impl Entry {
     // A file with these bytes.
     pub(crate) fn fill(&mut self, bytes: &[u8]) -> Result<(), NoMemory>
         ensures ok { OnOk result (self.new ≡ filled bytes.now self.old) }
+        ensures within { length bytes.now ≤ self.old.room → IsOk result }
         ensures err { OnErr result (self.new ≡ self.old) }
     {
         match self.reserve(bytes.len()) {

@@ -1,8 +1,8 @@
-ghost use Rattle.std.specs.Prelude.{◌≡◌, ◌<◌, ◌≤◌, ◌==◌, ◌-◌, length, take, drop, min, is_err, option_copied, IfOk, OnOk, OnErr};
+ghost use Rattle.std.specs.Prelude.{◌≡◌, ◌<◌, ◌≤◌, ◌==◌, ◌-◌, length, take, drop, min, is_err, option_copied, IsOk, IfOk, OnOk, OnErr};
 ghost use Rattle.std.specs.List.{list_any};
 ghost use Rattle.after_edge.specs.Fault.{Rose};
 ghost use Rattle.after_edge.specs.Files.{IfTold, Reads, HasReadCause, Changes, IsBegun, MayBeBegun, IsAppended, MayBeAppended};
-ghost use Rattle.after_edge.specs.MemoryFiles.{FilesState, no_files, file_of, room_after, set_after, read_after, begin_fails, begin_after, append_fails, append_after, told_content, read_answer};
+ghost use Rattle.after_edge.specs.MemoryFiles.{FilesState, HasRoom, no_files, entry_of, file_of, room_after, set_after, read_after, begin_fails, begin_after, append_fails, append_after, told_content, read_answer};
 
 use crate::entries::{append_at, begin_at, file_at, room_at, set_at};
 use crate::entry::Entry;
@@ -31,9 +31,10 @@ impl Model for MemoryFiles {
 }
 
 impl MemoryFiles {
-    /// No files. The calls of `Files` with these numbers, counted from 1, are to fail.
+    /// No files; it always answers Ok. The calls of `Files` with these numbers, counted from 1, are to fail.
     pub fn new(alloc: Global, fails: Vec<u64>) -> Result<MemoryFiles, NoMemory>
-        ensures { IfOk result (λ files. files ≡ no_files fails.items) }
+        ensures ok { IsOk result }
+        ensures fresh { IfOk result (λ files. files ≡ no_files fails.items) }
     {
         Ok(MemoryFiles {
             alloc,
@@ -44,17 +45,21 @@ impl MemoryFiles {
         })
     }
 
-    /// Reserves room for a file of this name, and makes none. Where there is no memory, all is as before.
+    /// Reserves room for a file of this name, and makes none. It is Ok where the name has that room already.
+    /// Where there is no memory, all is as before.
     pub fn room(&mut self, name: &str, bytes: usize) -> Result<(), NoMemory>
         ensures ok { OnOk result (self.new ≡ room_after self.old name.now bytes) }
+        ensures within { HasRoom (entry_of self.old.entries name.now) bytes → IsOk result }
         ensures err { OnErr result (self.new ≡ self.old) }
     {
         room_at(self.alloc, &mut self.entries, name, bytes)
     }
 
-    /// Makes the file with these bytes, and reserves room for them. Where there is no memory, all is as before.
+    /// Makes the file with these bytes, and reserves room for them. It is Ok where the name has that room already.
+    /// Where there is no memory, all is as before.
     pub fn set(&mut self, name: &str, bytes: &[u8]) -> Result<(), NoMemory>
         ensures ok { OnOk result (self.new ≡ set_after self.old name.now bytes.now) }
+        ensures within { HasRoom (entry_of self.old.entries name.now) (length bytes.now) → IsOk result }
         ensures err { OnErr result (self.new ≡ self.old) }
     {
         set_at(self.alloc, &mut self.entries, name, bytes)
