@@ -1,5 +1,12 @@
-ghost use Rattle.std.specs.Prelude.{◌≡◌, ◌⊎◌, IfErr, IsSome, length};
+ghost use Rattle.std.specs.Prelude.{◌≡◌, ◌⊎◌, ◌↔◌, IfOk, IfErr, drop, map, string_bytes};
+ghost use Rattle.std.specs.declared.io.ErrorKind.TheVariants.{OutOfMemory};
+ghost use Rattle.std.specs.IoError.{error_kind};
+ghost use Rattle.std.specs.Option.{option_map};
+ghost use Rattle.std.specs.Vec.Iter.{into_iter_items};
+ghost use Rattle.aftersight.specs.Texts.{text_of};
 
+use std::alloc::{AllocError, Global};
+use std::env::Args;
 use std::rt::Env;
 use std::{env, io};
 
@@ -8,19 +15,32 @@ use std::{env, io};
 pub fn read_words<R: Env + AllocGlobal>(rt: &R) -> Result<Vec<String>, u8>
     ensures { IfErr result (λ status. (status ≡ 9) ⊎ (status ≡ 10)) }
 {
-    let mut words = Vec::new(rt.alloc());
     let all = match env::args(rt) {
         Ok(all) => all,
-        Err(error) if error.kind() == io::ErrorKind::OutOfMemory => return Err(9),
-        Err(_) => return Err(10),
+        Err(error) => return Err(status_of(&error)),
     };
-    for word in all.skip(1) {
-        match words.push(word) {
-            Ok(()) => {}
-            Err(_) => return Err(9),
-        }
+    match behind_first(rt.alloc(), all) {
+        Ok(words) => Ok(words),
+        Err(_) => Err(9),
     }
-    Ok(words)
+}
+
+// The status where the host gives no words.
+fn status_of(error: &io::Error) -> u8
+    ensures status { (result ≡ 9) ⊎ (result ≡ 10) }
+    ensures memory { (result ≡ 9) ↔ (error_kind error.now ≡ OutOfMemory) }
+{
+    match error.kind() {
+        io::ErrorKind::OutOfMemory => 9,
+        _ => 10,
+    }
+}
+
+// All words but the first, in order.
+fn behind_first(alloc: Global, all: Args) -> Result<Vec<String>, AllocError>
+    ensures { IfOk result (λ words. words.items ≡ drop 1 (into_iter_items all)) }
+{
+    all.skip(1).collect(alloc)
 }
 
 const HELP: &str = "\
@@ -39,14 +59,16 @@ const VERSION: &str = "aftersight 0.1.0\n";
 
 /// The text of a command line whose only word asks for help or for the version.
 pub fn text_of_lone(words: &[String]) -> Option<&'static str>
-    ensures { IsSome result → length words.now ≡ 1 }
+    ensures { option_map (λ text. text.now) result ≡ text_of (map string_bytes words.now) }
 {
     let [word] = words else {
         return None;
     };
-    match word.as_str() {
-        "--help" => Some(HELP),
-        "--version" => Some(VERSION),
-        _ => None,
+    if word.as_str() == "--help" {
+        Some(HELP)
+    } else if word.as_str() == "--version" {
+        Some(VERSION)
+    } else {
+        None
     }
 }

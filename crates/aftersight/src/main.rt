@@ -1,6 +1,11 @@
 //! The program `aftersight`: the words of the command line, the host's files and streams, the top call and its status.
 #![tactic(auto)]
 
+ghost use Rattle.std.specs.Prelude.{◌≡◌, ◌⊎◌};
+ghost use Rattle.after_cli.specs.Answer.{TellsLine, line_of};
+ghost use Rattle.after_edge.specs.Fault.{Rose};
+ghost use Rattle.after_edge.specs.Sink.{Adds, AddsPart};
+
 mod command_line;
 
 use after_cli::{Outcome, aftersight_plain, end_with};
@@ -8,8 +13,13 @@ use after_edge::{Failed, Sink, StdFiles, StdSink};
 use command_line::{read_words, text_of_lone};
 use std::process::ExitCode;
 
-// Writes a text that stands for itself.
-fn show<O: Sink, E: Sink>(text: &str, out: &mut O, err: &mut E) -> Outcome {
+// Writes a text that stands for itself: status 0, or 6 where the output failed.
+fn show<O: Sink, E: Sink>(text: &str, out: &mut O, err: &mut E) -> Outcome
+    ensures status { (result.status ≡ 0) ⊎ (result.status ≡ 6) }
+    ensures shown { result.status ≡ 0 → Adds O.holds out.old out.new text.now }
+    ensures failed { result.status ≡ 6 → AddsPart O.holds out.old out.new text.now × Rose (O.faults out.old) (O.faults out.new) }
+    ensures told { TellsLine E.holds E.faults err.old err.new (line_of result.status) }
+{
     match out.put(text.as_bytes()) {
         Ok(()) => end_with(0, err),
         Err(Failed) => end_with(6, err),
