@@ -1,24 +1,22 @@
 -- A turn of the recorder, where the core stands.
-use Rattle.std.proofs.Common.{◌≡◌, ◌⊎◌, inl, inr, ℕ, zero, suc, ◌+◌, ◌-◌, ◌<◌, ◌≤◌, Bool, true, false, List, [], ◌∷◌, length, take, drop, reverse, Option, Some, None, refl, sym, ap, subst, ◌∙◌, arith}
-use Rattle.std.specs.Prelude.{◌==◌, ◌&&◌, nat_eq, is_some, IfSome, slice_index}
+use Rattle.std.proofs.Common.{◌≡◌, inl, inr, ℕ, ◌+◌, ◌-◌, ◌≤◌, Bool, true, false, [], ◌∷◌, length, take, Some, None, sym, ap, subst, ◌∙◌, arith}
+use Rattle.std.specs.Prelude.{◌&&◌, nat_eq, is_some, IfSome, slice_index}
 use Rattle.std.proofs.lemmas.List.{reverse-append}
-use Rattle.run_events.specs.Record.{IsRecord, number}
-use Rattle.machine_model.specs.Items.{Item, items}
+use Rattle.run_events.specs.Record.{number}
 use Rattle.gate_core.specs.declared.full.Full.{Full}
-use Rattle.gate_core.specs.Core.{CoreState, Append, Close, after_event, IsSound}
+use Rattle.gate_core.specs.Core.{CoreState, Append, Close}
 use Rattle.gate_core.specs.Hub.{full_of, with_append, with_close}
 use Rattle.gate_core.specs.Follow.{hub_of}
 use Rattle.gate_core.proofs.CoreLaws.{event_IsSound}
 use Rattle.gate_core.proofs.FollowLaws.{appends, refuses, named}
 use Rattle.output_gate.specs.Gate.{is_full}
-use Rattle.guard_run.specs.declared.closing.Ending.{Ending}
 use Rattle.guard_run.specs.declared.parts.Parts.{Parts}
 use Rattle.guard_run.specs.declared.source.Entry.{Entry}
 use Rattle.guard_run.specs.declared.source.Source.{Source}
 use Rattle.guard_run.specs.Closings.{end_at, end_in, end_back}
-use Rattle.guard_run.specs.Course.{Course, run_of, log_of, plan_of}
-use Rattle.guard_run.specs.Gates.{Gates, with_item}
-use Rattle.guard_run.specs.Replicas.{Follows, taken_by, verdict_of}
+use Rattle.guard_run.specs.Course.{Course, log_of, plan_of}
+use Rattle.guard_run.specs.Gates.{with_item}
+use Rattle.guard_run.specs.Replicas.{taken_by, verdict_of}
 use Rattle.guard_run.specs.Runs.{IsAt, HasAppended, HasClosed, HasWaited}
 use Rattle.guard_run.specs.Sources.{item_of, still_to_come}
 use Rattle.guard_run.proofs.CourseLaws.{is_plan}

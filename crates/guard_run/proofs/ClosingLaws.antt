@@ -1,13 +1,9 @@
 -- What a run leaves when it is over.
-use Rattle.std.proofs.Common.{◌≡◌, ℕ, ◌+◌, ◌-◌, ◌≤◌, true, List, [], ◌∷◌, length, take, Option, Some, refl, sym, ap, subst, ◌∙◌, arith}
-use Rattle.std.specs.Prelude.{slice_index}
+use Rattle.std.proofs.Common.{◌≡◌, ℕ, true, [], ◌∷◌, length, take, Option, Some, sym, ap, subst, ◌∙◌, arith}
 use Rattle.std.specs.Option.{option_map}
 use Rattle.std.specs.List.{flat_map}
 use Rattle.std.proofs.lemmas.List.{length-take-le, length-map, take_all, reverse-append}
-use Rattle.list_laws.specs.Prefix.{IsPrefix}
-use Rattle.run_events.specs.declared.event.Event.{Event}
 use Rattle.run_events.specs.declared.record.EndCause.{EndCause}
-use Rattle.run_events.specs.declared.record.Record.{Record}
 use Rattle.run_events.specs.declared.record.Record.TheVariants.{End}
 use Rattle.run_events.specs.Record.{reach}
 use Rattle.machine_model.specs.Run.{records_of}
@@ -24,7 +20,7 @@ use Rattle.guard_run.specs.declared.closing.Ending.{Ending}
 use Rattle.guard_run.specs.declared.parts.Parts.{Parts}
 use Rattle.guard_run.specs.declared.replica.Replica.{Replica}
 use Rattle.guard_run.specs.Closings.{Closes, ClosesFront, ClosesWhole, end_back, end_in, facts_at, facts_with}
-use Rattle.guard_run.specs.Course.{Course, IsCourse, run_of, log_of, output_of, plan_of, released_bytes}
+use Rattle.guard_run.specs.Course.{Course, IsCourse, run_of, log_of, output_of}
 use Rattle.guard_run.specs.Gates.{issued_by}
 use Rattle.guard_run.specs.Replicas.{Follows, taken_by}
 use Rattle.guard_run.specs.Runs.{IsEnded, IsStopped}

@@ -1,39 +1,33 @@
 -- What is true of each course: its log, its output, and what a replica has seen of it.
-use Rattle.std.proofs.Common.{◌≡◌, ℕ, zero, suc, ◌+◌, ◌-◌, ◌<◌, ◌≤◌, Bool, true, false, cond, List, [], ◌∷◌, ◌++◌, length, take, drop, map, reverse, Option, Some, None, refl, sym, ap, subst, ◌∙◌, arith, append-nil, append_assoc, length-append, take-append-drop}
-use Rattle.std.specs.Prelude.{nat_lt, ◌||◌, ◌&&◌, ◌==◌, ◌%◌, min, is_some, unwrap_or, slice_index, slice_get, IfSome}
-use Rattle.std.specs.Option.{option_map, option_to_list}
-use Rattle.std.specs.List.{All, AllByRecursion, flat_map, filter_map, cons_option}
-use Rattle.std.proofs.lemmas.List.{map-append, length-map, take_all, take_more, reverse-append}
-use Rattle.std.proofs.lemmas.List.Elements.{filter_map-append, All-append, All-weaker}
-use Rattle.list_laws.specs.Prefix.{IsPrefix}
+use Rattle.std.proofs.Common.{◌≡◌, ℕ, zero, suc, ◌+◌, ◌<◌, ◌≤◌, Bool, true, false, cond, List, [], ◌∷◌, ◌++◌, length, take, drop, reverse, Option, Some, None, refl, sym, ap, subst, ◌∙◌, arith, take-append-drop}
+use Rattle.std.specs.Prelude.{nat_lt, ◌&&◌, min, unwrap_or, slice_index, IfSome}
+use Rattle.std.specs.Option.{option_map}
+use Rattle.std.specs.List.{flat_map, cons_option}
+use Rattle.std.proofs.lemmas.List.{take_all, reverse-append}
 use Rattle.run_events.specs.declared.event.Event.{Event}
-use Rattle.run_events.specs.declared.record.EndCause.{EndCause}
 use Rattle.run_events.specs.declared.record.Record.{Record}
-use Rattle.run_events.specs.declared.record.Record.TheVariants.{Reach, End}
+use Rattle.run_events.specs.declared.record.Record.TheVariants.{End}
 use Rattle.run_events.specs.Event.{step_of}
-use Rattle.run_events.specs.Record.{IsRecord, number, reach, reach_back, is_admitted, is_ordered, is_ordered_back}
+use Rattle.run_events.specs.Record.{number, reach, reach_back, is_admitted, is_ordered, is_ordered_back}
 use Rattle.machine_model.specs.State.{State}
-use Rattle.machine_model.specs.Run.{Finished, run_from, output, log, serial_byte, records_of}
-use Rattle.machine_model.specs.Items.{Item, items, items_behind, byte_of, bytes_of}
-use Rattle.machine_model.specs.Replay.{Fault, StepFalls, first_fault, first_fault_back, fault_behind, fault_of, elsewhere, first_end, shown_back, is_taken}
-use Rattle.machine_model.proofs.ItemLaws.{items-log, items-output}
+use Rattle.machine_model.specs.Run.{run_from, output, serial_byte, records_of}
+use Rattle.machine_model.specs.Replay.{Fault, StepFalls, first_fault_back, fault_behind, fault_of, elsewhere, first_end, shown_back}
 use Rattle.machine_model.proofs.NumberLaws.{Numbered, IsNumbered, run_from-IsNumbered, below_taken, from_dropped}
 use Rattle.replayer.proofs.Determinism.{each_front_fits, front_shown}
 use Rattle.analysis_model.specs.Made.{code_made_of, kind_made_of}
 use Rattle.analysis_model.specs.Findings.{findings, first_step}
-use Rattle.analysis_model.specs.Job.{first_refused, least_refused}
+use Rattle.analysis_model.specs.Job.{first_refused}
 use Rattle.analysis_model.proofs.FirstLaws.{Below, findings-append, first_step-append, first_below}
 use Rattle.analysis_model.proofs.StopLaws.{From, first_from}
 use Rattle.gate_core.specs.declared.verdict.Verdict.{Verdict}
-use Rattle.gate_core.specs.Core.{Plan, IsPlan, RisesFrom, reached}
+use Rattle.gate_core.specs.Core.{IsPlan, RisesFrom, reached}
 use Rattle.gate_core.proofs.CoreLaws.{reach_rises}
 use Rattle.output_gate.specs.Gate.{Climbs}
 use Rattle.output_gate.proofs.GateLaws.{Climbs-wider, Climbs-at}
-use Rattle.guard_run.specs.Course.{Course, IsCourse, run_of, log_of, output_of, stop_of, plan_of}
-use Rattle.guard_run.specs.Gates.{issued_by, IsMarked}
+use Rattle.guard_run.specs.Course.{Course, IsCourse, run_of, log_of, output_of, plan_of}
 use Rattle.guard_run.specs.Replicas.{verdict_of}
 use Rattle.guard_run.specs.Verdicts.{verdict_from}
-use Rattle.guard_run.proofs.ListLaws.{steps_of, AllBelow, take_IsPrefix}
+use Rattle.guard_run.proofs.ListLaws.{steps_of, take_IsPrefix}
 
 -- a list without a fault is in order
 some_none : (fault : Fault) → ◌≡◌ {A = Option Fault} (Some fault) None → ⊥
@@ -149,8 +143,8 @@ module _ (c : Course) (is : IsCourse c) (k : ℕ) where
       let seen = findings kind code (take r run.events) in
       let rest = findings kind code (drop r run.events) in
       let first_is : first_refused code run kind ≡ unwrap_or (first_step seen) (unwrap_or (first_step rest) run.steps) =
-          ap (λ l. unwrap_or (first_step (findings kind code l)) run.steps) (sym (take-append-drop r run.events))
-          ∙ ap (λ l. unwrap_or (first_step l) run.steps) (findings-append kind code (take r run.events) (drop r run.events))
-          ∙ first_step-append seen rest run.steps in
+      ap (λ l. unwrap_or (first_step (findings kind code l)) run.steps) (sym (take-append-drop r run.events))
+      ∙ ap (λ l. unwrap_or (first_step l) run.steps) (findings-append kind code (take r run.events) (drop r run.events))
+      ∙ first_step-append seen rest run.steps in
       verdict_by r run.steps (first_step seen) (first_step rest) (first_below kind code r (take r run.events) below) (first_from kind code r (drop r run.events) from) (reach_within c is k)
       ∙ ap (λ f. record { approved = min (min f run.steps) r; refused = nat_lt (min f run.steps) r }) (sym first_is)

@@ -1,29 +1,26 @@
 -- A run that has come to its end, and one that a failed put has ended.
-use Rattle.std.proofs.Common.{◌≡◌, ◌⊎◌, inl, inr, ℕ, zero, suc, ◌+◌, ◌-◌, ◌<◌, ◌≤◌, Bool, true, false, List, [], ◌∷◌, ◌++◌, length, take, drop, map, Option, Some, None, refl, sym, ap, subst, ◌∙◌, arith, take-append-drop, append-nil}
-use Rattle.std.specs.Prelude.{slice_index, nat_lt}
-use Rattle.std.proofs.lemmas.List.{map-append, length-map, length-drop, length-take-le, take-take, take_all}
+use Rattle.std.proofs.Common.{◌≡◌, ◌⊎◌, inl, inr, ℕ, zero, suc, ◌≤◌, true, false, List, [], ◌∷◌, ◌++◌, length, take, drop, Option, Some, None, refl, sym, ap, subst, ◌∙◌, arith, take-append-drop}
+use Rattle.std.specs.Prelude.{nat_lt}
+use Rattle.std.proofs.lemmas.List.{map-append, length-map, length-drop, take_all}
 use Rattle.std.proofs.lemmas.List.Elements.{filter-append}
-use Rattle.after_edge.specs.Sink.{Adds, AddsPart}
+use Rattle.after_edge.specs.Sink.{Adds}
 use Rattle.after_edge.proofs.SinkLaws.{Adds-same, Adds-then, AddsPart-same, AddsPart-then, AddsPart-front}
 use Rattle.list_laws.specs.Prefix.{IsPrefix}
 use Rattle.list_laws.proofs.PrefixLaws.{IsPrefix-map}
-use Rattle.run_events.specs.declared.record.Record.{Record}
 use Rattle.analysis_model.specs.Job.{before_step}
 use Rattle.gate_core.specs.Core.{CoreState, Close, after_event, IsSound}
 use Rattle.gate_core.specs.Hub.{HubState, with_close}
 use Rattle.gate_core.proofs.CoreLaws.{event_IsSound}
 use Rattle.guard_run.specs.declared.parts.Parts.{Parts}
 use Rattle.guard_run.specs.declared.replica.Replica.{Replica}
-use Rattle.guard_run.specs.declared.replica.Turn.TheVariants.{Took, Empty, Closed}
-use Rattle.guard_run.specs.Course.{Course, run_of, log_of, output_of, stop_of, plan_of, released_bytes}
-use Rattle.guard_run.specs.Gates.{Gates, issued_by, kept, still_waiting}
-use Rattle.guard_run.specs.Replicas.{Follows, Turned, taken_by, after_turn}
-use Rattle.guard_run.specs.Runs.{IsAt, IsIdle, IsBroken, IsOnItsWay, IsReadOut, HasEnded, HasStopped, HasBrokenRound, with_released, bytes_between}
-use Rattle.guard_run.proofs.ListLaws.{steps_of, bytes_in, AllBelow, before-all, before-again, front-take}
+use Rattle.guard_run.specs.Course.{Course, log_of, output_of, stop_of, plan_of, released_bytes}
+use Rattle.guard_run.specs.Gates.{issued_by, kept, still_waiting}
+use Rattle.guard_run.specs.Replicas.{Follows, after_turn}
+use Rattle.guard_run.specs.Runs.{IsIdle, IsBroken, IsOnItsWay, IsReadOut, HasEnded, HasStopped, HasBrokenRound, with_released, bytes_between}
+use Rattle.guard_run.proofs.ListLaws.{bytes_in, AllBelow, before-all, front-take}
 use Rattle.guard_run.proofs.CourseLaws.{is_plan}
 use Rattle.guard_run.proofs.ItemLaws.{issued_all}
 use Rattle.guard_run.proofs.ReleaseLaws.{kept_IsPrefix, released_below}
-use Rattle.guard_run.proofs.ReplicaLaws.{set_one}
 
 -- the bytes up to a place, and on from there
 pub between-then : (c : Course) (p q : ℕ) → p ≤ q → bytes_between c 0 p ++ bytes_between c p q ≡ bytes_between c 0 q

@@ -1,21 +1,19 @@
 -- The gate of a run, when bytes are issued to it.
-use Rattle.std.proofs.Common.{◌≡◌, ◌⊎◌, inl, inr, ℕ, zero, suc, ◌+◌, ◌-◌, ◌<◌, ◌≤◌, Bool, true, false, cond, List, [], ◌∷◌, ◌++◌, length, take, drop, map, Option, Some, None, refl, sym, ap, subst, ◌∙◌, arith, append-nil, length-append, append_assoc}
-use Rattle.std.specs.Prelude.{nat_lt, nat_le, nat_eq, ◌==◌, ◌&&◌, is_some, IfSome, slice_index}
+use Rattle.std.proofs.Common.{◌≡◌, ℕ, zero, suc, ◌+◌, ◌-◌, ◌<◌, ◌≤◌, Bool, true, false, cond, List, [], ◌∷◌, ◌++◌, length, drop, Option, Some, None, refl, sym, ap, subst, ◌∙◌, arith, append-nil, append_assoc}
+use Rattle.std.specs.Prelude.{nat_lt, nat_le, nat_eq, ◌&&◌, is_some, IfSome}
 use Rattle.std.specs.Option.{option_map}
-use Rattle.std.specs.List.{All, cons_option}
-use Rattle.std.proofs.lemmas.List.{map-append, length-map, drop-append-le, length_push, take_all}
+use Rattle.std.specs.List.{cons_option}
+use Rattle.std.proofs.lemmas.List.{map-append, drop-append-le, length_push}
 use Rattle.std.proofs.lemmas.List.Elements.{All-append, All-weaker, All-nil, All-push, filter-append}
-use Rattle.list_laws.specs.Prefix.{IsPrefix}
-use Rattle.list_laws.proofs.PrefixLaws.{IsPrefix-map}
 use Rattle.run_events.specs.Record.{number}
 use Rattle.run_events.specs.declared.record.Record.TheVariants.{Reach}
 use Rattle.machine_model.specs.Items.{Item, items, byte_of}
 use Rattle.analysis_model.specs.Job.{before_step}
 use Rattle.gate_core.specs.Core.{CoreState, Append, after_event, reached}
 use Rattle.output_gate.specs.Gate.{GateState, Climbs, behind, is_full, is_withheld, with_issue}
-use Rattle.guard_run.specs.Course.{Course, IsCourse, run_of, log_of, output_of, stop_of, plan_of}
-use Rattle.guard_run.specs.Gates.{Gates, issued_by, kept, still_waiting, IsMarked, with_item, with_byte}
-use Rattle.guard_run.proofs.ListLaws.{steps_of, bytes_in, AllBelow, Climbs-front, behind-le, behind-push, filter-map-by}
+use Rattle.guard_run.specs.Course.{Course, IsCourse, run_of, log_of, output_of, plan_of}
+use Rattle.guard_run.specs.Gates.{Gates, issued_by, kept, still_waiting, with_item, with_byte}
+use Rattle.guard_run.proofs.ListLaws.{steps_of, bytes_in, AllBelow, behind-le, behind-push}
 use Rattle.guard_run.proofs.CourseLaws.{climbs, reach_less}
 use Rattle.guard_run.proofs.ItemLaws.{IsNext, issued_IsPrefix, length_log, next_item}
 
@@ -121,10 +119,10 @@ module _ (c : Course) (core : CoreState) (gate : GateState) (g : Gates c core ga
       let step : ℕ = number i.item - 1 in
       let front = issued_IsPrefix c is (core.appended + 1) in
       let steps_are : steps_of (output_of c) ≡ steps_of sent ++ step ∷ steps_of front.rest =
-          ap steps_of (sym front.joined)
-          ∙ map-append (λ (byte : ℕ × ℕ). byte.0) (issued_by c (core.appended + 1)) front.rest
-          ∙ ap (λ l. l ++ steps_of front.rest) (ap steps_of more ∙ map-append (λ (byte : ℕ × ℕ). byte.0) sent ((step, byte) ∷ []))
-          ∙ append_one (steps_of sent) step (steps_of front.rest) in
+      ap steps_of (sym front.joined)
+      ∙ map-append (λ (byte : ℕ × ℕ). byte.0) (issued_by c (core.appended + 1)) front.rest
+      ∙ ap (λ l. l ++ steps_of front.rest) (ap steps_of more ∙ map-append (λ (byte : ℕ × ℕ). byte.0) sent ((step, byte) ∷ []))
+      ∙ append_one (steps_of sent) step (steps_of front.rest) in
       let le : behind 0 (steps_of sent) ≤ step = behind-le (steps_of sent) step (steps_of front.rest) 0 (run_of c).steps (subst (λ l. Climbs 0 l (run_of c).steps) steps_are (climbs c is)) in
       omega (arith, le, g.last)
     where

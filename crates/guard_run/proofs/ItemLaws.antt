@@ -1,10 +1,9 @@
 -- The items of a course, and the bytes that they let go.
-use Rattle.std.proofs.Common.{◌≡◌, ℕ, zero, suc, ◌+◌, ◌-◌, ◌<◌, ◌≤◌, Bool, true, false, cond, List, [], ◌∷◌, ◌++◌, length, take, drop, map, reverse, Option, Some, None, refl, sym, ap, subst, ◌∙◌, arith, append-nil, append_assoc, length-append, take-append-drop}
-use Rattle.std.specs.Prelude.{nat_lt, ◌||◌, ◌==◌, ◌%◌, is_some, slice_index, slice_get, IfSome}
-use Rattle.std.specs.Option.{option_map, option_to_list}
-use Rattle.std.specs.List.{All, AllByRecursion, flat_map, filter_map, cons_option}
-use Rattle.std.proofs.lemmas.List.{map-append, length-map, take_all, take_more}
-use Rattle.std.proofs.lemmas.List.Elements.{filter_map-append, All-append, All-weaker, All-nil, All-push}
+use Rattle.std.proofs.Common.{◌≡◌, ℕ, zero, suc, ◌+◌, ◌<◌, ◌≤◌, Bool, true, false, cond, List, [], ◌∷◌, ◌++◌, length, take, drop, map, Option, Some, None, refl, sym, ap, subst, ◌∙◌, arith, append_assoc, length-append, take-append-drop}
+use Rattle.std.specs.Prelude.{◌||◌, ◌==◌, ◌%◌, is_some, slice_get, IfSome}
+use Rattle.std.specs.List.{AllByRecursion, flat_map, cons_option}
+use Rattle.std.proofs.lemmas.List.{length-map, take_all}
+use Rattle.std.proofs.lemmas.List.Elements.{filter_map-append}
 use Rattle.list_laws.specs.Prefix.{IsPrefix}
 use Rattle.run_events.specs.declared.event.Event.{Event}
 use Rattle.run_events.specs.declared.record.Record.{Record}
@@ -13,17 +12,16 @@ use Rattle.run_events.specs.Event.{step_of}
 use Rattle.run_events.specs.Record.{IsRecord, number, reach}
 use Rattle.machine_model.specs.State.{State}
 use Rattle.machine_model.specs.Step.{step_from}
-use Rattle.machine_model.specs.Run.{Finished, run_from, output, log, serial_byte, power_status, after_event}
+use Rattle.machine_model.specs.Run.{Finished, run_from, serial_byte, power_status}
 use Rattle.machine_model.specs.Items.{Item, items, items_behind, byte_of, bytes_of}
 use Rattle.machine_model.specs.Replay.{is_taken}
 use Rattle.machine_model.proofs.ItemLaws.{items-log, items-output}
 use Rattle.machine_model.proofs.RunLaws.{run_from-limit, run_from-stuck, run_from-power, run_from-goes}
-use Rattle.machine_model.proofs.ShownLaws.{AreWithin, log_AreWithin}
+use Rattle.machine_model.proofs.ShownLaws.{log_AreWithin}
 use Rattle.gate_core.specs.Core.{reached}
-use Rattle.guard_run.specs.Course.{Course, IsCourse, run_of, log_of, output_of, stop_of, plan_of}
+use Rattle.guard_run.specs.Course.{Course, IsCourse, run_of, log_of, output_of, plan_of}
 use Rattle.guard_run.specs.Gates.{issued_by, IsMarked}
-use Rattle.guard_run.proofs.ListLaws.{steps_of, AllBelow, take_IsPrefix}
-use Rattle.guard_run.proofs.CourseLaws.{numbered, reach_less, reach_push}
+use Rattle.guard_run.proofs.CourseLaws.{numbered, reach_push}
 
 -- a run has at most one event a step, and at most one item an event
 steps_by_status : (left : ℕ) (s next : State) (event : Event) → step_from s ≡ Some (event, next) → length (run_from left next).events ≤ left → (o : Option ℕ) → power_status event ≡ o → length (run_from (suc left) s).events ≤ suc left

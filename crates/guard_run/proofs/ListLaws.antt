@@ -1,13 +1,13 @@
 -- Lists that rise, and parts of them.
-use Rattle.std.proofs.Common.{◌≡◌, ℕ, zero, suc, ◌+◌, ◌-◌, ◌<◌, ◌≤◌, Bool, true, false, cond, List, [], ◌∷◌, ◌++◌, length, take, drop, map, Option, Some, None, refl, sym, ap, subst, ◌∙◌, arith, append-nil, append_assoc, length-append, take-append-drop}
-use Rattle.std.specs.Prelude.{◌==◌, nat_lt, filter, slice_index, slice_get, slice_set, get_or}
+use Rattle.std.proofs.Common.{◌≡◌, ℕ, zero, suc, ◌+◌, ◌<◌, ◌≤◌, Bool, true, false, cond, List, [], ◌∷◌, ◌++◌, length, take, drop, map, refl, sym, ap, subst, ◌∙◌, arith, length-append, take-append-drop}
+use Rattle.std.specs.Prelude.{nat_lt, filter, slice_index}
 use Rattle.std.specs.List.{All}
-use Rattle.std.proofs.lemmas.List.{map-append, length-map, take-append-le, drop-append-le, drop-take, length-take-le, length-drop, get_or-map, get_or-take, get_or-drop}
-use Rattle.std.proofs.lemmas.List.Elements.{All-append, All-tail, All-head, All-drop, All-take, All-get_or, All-filter, All-weaker, filter-append, filter_passes}
+use Rattle.std.proofs.lemmas.List.{length-map, take-append-le}
+use Rattle.std.proofs.lemmas.List.Elements.{All-tail, All-head, All-weaker, filter_passes}
 use Rattle.list_laws.specs.Prefix.{IsPrefix}
 use Rattle.analysis_model.specs.Job.{before_step}
 use Rattle.output_gate.specs.Gate.{Climbs, behind, count_below}
-use Rattle.output_gate.proofs.GateLaws.{Climbs-span, Climbs-wider, filter-climbs, count_below-within}
+use Rattle.output_gate.proofs.GateLaws.{Climbs-span}
 
 -- the steps and the bytes of some output
 abbrev pub steps_of : List (ℕ × ℕ) → List ℕ

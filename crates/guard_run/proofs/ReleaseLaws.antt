@@ -1,20 +1,20 @@
 -- The gate of a run, when it releases and withholds.
-use Rattle.std.proofs.Common.{◌≡◌, ◌⊎◌, inl, inr, ℕ, zero, suc, ◌+◌, ◌-◌, ◌<◌, ◌≤◌, Bool, true, false, cond, List, [], ◌∷◌, ◌++◌, length, take, drop, map, Option, Some, None, refl, sym, ap, subst, ◌∙◌, arith, append-nil, length-append, take-append-drop}
+use Rattle.std.proofs.Common.{◌≡◌, ◌⊎◌, inl, inr, ℕ, zero, suc, ◌+◌, ◌-◌, ◌<◌, ◌≤◌, true, false, cond, List, [], ◌∷◌, ◌++◌, length, take, drop, Option, Some, None, refl, sym, ap, subst, ◌∙◌, arith, take-append-drop}
 use Rattle.std.specs.Prelude.{nat_lt, min, slice_index, get_or, filter}
 use Rattle.std.specs.List.{All}
-use Rattle.std.proofs.lemmas.List.{map-append, length-map, drop-map, drop-drop, drop-take, length-drop, take_all, take-map, get_or-map, get_or-drop, get_or-take, get_or_append_left, drop_all, length-take-le}
+use Rattle.std.proofs.lemmas.List.{map-append, length-map, drop-map, drop-drop, drop-take, length-drop, take_all, take-map, get_or-map, get_or-drop, get_or_append_left, drop_all, length-take-le}
 use Rattle.std.proofs.lemmas.List.Elements.{All-weaker, All-filter, All-drop, All-get_or, All-from_get_or, All-map, All-head, All-tail, filter_passes}
 use Rattle.list_laws.specs.Prefix.{IsPrefix}
 use Rattle.list_laws.proofs.PrefixLaws.{IsPrefix-trans, IsPrefix-map}
-use Rattle.analysis_model.specs.Job.{before_step, released_of}
-use Rattle.gate_core.specs.Core.{CoreState, Release, Break, after_event, reached, IsSound, IsReleasable, IsShown, IsRequired}
+use Rattle.analysis_model.specs.Job.{before_step}
+use Rattle.gate_core.specs.Core.{CoreState, Release, reached, IsSound, IsReleasable, IsRequired}
 use Rattle.gate_core.proofs.CoreLaws.{event_IsSound}
 use Rattle.output_gate.specs.Gate.{GateState, Climbs, behind, count_below, least_from, with_release, with_withheld}
 use Rattle.output_gate.proofs.GateLaws.{Climbs-take, Climbs-drop, filter-climbs, count_below-within, count_below-before}
-use Rattle.guard_run.specs.Course.{Course, IsCourse, run_of, log_of, output_of, stop_of, plan_of, released_bytes}
+use Rattle.guard_run.specs.Course.{Course, IsCourse, run_of, log_of, output_of, stop_of, plan_of}
 use Rattle.guard_run.specs.Gates.{Gates, issued_by, kept, still_waiting}
 use Rattle.guard_run.specs.Runs.{with_released, bytes_between}
-use Rattle.guard_run.proofs.ListLaws.{steps_of, bytes_in, AllBelow, Climbs-front, behind-below, IsSplit, splits, split_IsPrefix, count-before, before-again, before-all, before-below, before-drop, before-long, front-take, front-length, filter-map-steps}
+use Rattle.guard_run.proofs.ListLaws.{steps_of, bytes_in, AllBelow, Climbs-front, behind-below, splits, split_IsPrefix, count-before, before-again, before-drop, before-long, front-take, front-length, filter-map-steps}
 use Rattle.guard_run.proofs.CourseLaws.{climbs, is_plan}
 use Rattle.guard_run.proofs.ItemLaws.{issued_IsPrefix}
 use Rattle.guard_run.proofs.IssueLaws.{issued_under}
@@ -58,8 +58,7 @@ module _ (c : Course) (is : IsCourse c) (from : Option ℕ) (a : ℕ) where
   kept_by : (o : Option ℕ) → Climbs 0 (steps_of (kept o (issued_by c a))) (run_of c).steps × IsPrefix (kept o (issued_by c a)) (output_of c)
   kept_by None = (issued_climbs, issued_IsPrefix c is a)
   kept_by (Some step) =
-      let split = splits step 0 (run_of c).steps (issued_by c a) issued_climbs in
-      (
+      let split = splits step 0 (run_of c).steps (issued_by c a) issued_climbs in (
         subst (λ l. Climbs 0 l (run_of c).steps) (sym (filter-climbs (steps_of (issued_by c a)) 0 (run_of c).steps step issued_climbs) ∙ filter-map-steps step (issued_by c a))
             (Climbs-take (count_below step (steps_of (issued_by c a))) (steps_of (issued_by c a)) 0 (run_of c).steps issued_climbs),
         IsPrefix-trans (split_IsPrefix step (issued_by c a) split) (issued_IsPrefix c is a),
@@ -92,8 +91,8 @@ module _ (c : Course) (core : CoreState) (sound : IsSound (plan_of c) core) wher
       All-from_get_or (λ (byte : ℕ × ℕ). byte.0 < stop_of c) (take core.released (output_of c)) (0, 0) (λ i less.
       let within : i < core.released = omega (arith, less, length-take-le core.released (output_of c) long) in
       let same : (get_or (take core.released (output_of c)) i (0, 0)).0 ≡ slice_index (steps_of (output_of c)) i =
-          ap (λ (byte : ℕ × ℕ). byte.0) (sym (get_or_append_left (take core.released (output_of c)) (drop core.released (output_of c)) (0, 0) i less) ∙ ap (λ l. get_or l i (0, 0)) (take-append-drop core.released (output_of c)))
-          ∙ sym (get_or-map (λ (byte : ℕ × ℕ). byte.0) (output_of c) i (0, 0) 0 (omega (arith, within, long))) in
+      ap (λ (byte : ℕ × ℕ). byte.0) (sym (get_or_append_left (take core.released (output_of c)) (drop core.released (output_of c)) (0, 0) i less) ∙ ap (λ l. get_or l i (0, 0)) (take-append-drop core.released (output_of c)))
+      ∙ sym (get_or-map (λ (byte : ℕ × ℕ). byte.0) (output_of c) i (0, 0) 0 (omega (arith, within, long))) in
       let below = at_step i within in omega (arith, below, same))
 
 module _ (c : Course) (is : IsCourse c) (core : CoreState) (gate : GateState) (g : Gates c core gate) where
@@ -205,9 +204,9 @@ module _ (c : Course) (is : IsCourse c) (core : CoreState) (gate : GateState) (g
         let low = behind 0 (take core.released (steps_of all_kept)) in
         let sent = still_waiting c core gate.from in
         let rest : drop (count_below below gate.steps) gate.steps ≡ steps_of (drop (count_below below (steps_of sent)) sent) =
-            (λ i. drop (count_below below (g.steps i)) (g.steps i)) ∙ drop-map (λ (byte : ℕ × ℕ). byte.0) (count_below below (steps_of sent)) sent in
+        (λ i. drop (count_below below (g.steps i)) (g.steps i)) ∙ drop-map (λ (byte : ℕ × ℕ). byte.0) (count_below below (steps_of sent)) sent in
         let zero_is : count_below below (drop (count_below below gate.steps) gate.steps) ≡ 0 =
-            ap (count_below below) rest ∙ count-before below (drop (count_below below (steps_of sent)) sent) ∙ ap length (none-behind below low (run_of c).steps sent still_climbs) in
+        ap (count_below below) rest ∙ count-before below (drop (count_below below (steps_of sent)) sent) ∙ ap length (none-behind below low (run_of c).steps sent still_climbs) in
         ap (λ n. take n (drop (count_below below gate.steps) gate.steps)) zero_is
 
   -- after the gate withheld from the stop on

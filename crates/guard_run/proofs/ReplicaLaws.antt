@@ -1,6 +1,6 @@
 -- A replica that takes a record stands where the core's events lead.
-use Rattle.std.proofs.Common.{◌≡◌, ℕ, zero, suc, ◌+◌, ◌*◌, ◌<◌, ◌≤◌, Bool, true, false, List, [], ◌∷◌, ◌++◌, length, take, reverse, Option, Some, None, refl, sym, ap, subst, ◌∙◌, arith}
-use Rattle.std.specs.Prelude.{nat_lt, min, slice_index, slice_set, slice_get}
+use Rattle.std.proofs.Common.{◌≡◌, ℕ, zero, suc, ◌+◌, ◌*◌, ◌<◌, ◌≤◌, true, List, [], ◌∷◌, ◌++◌, length, take, reverse, Option, Some, None, refl, sym, ap, subst, ◌∙◌, arith}
+use Rattle.std.specs.Prelude.{min, slice_index, slice_set, slice_get}
 use Rattle.std.proofs.lemmas.List.{reverse-append}
 use Rattle.run_events.specs.declared.event.Event.{Event}
 use Rattle.run_events.specs.declared.record.Record.{Record}
@@ -12,7 +12,7 @@ use Rattle.analysis_set.specs.Analysis.{HasSeen, kib_of, made_of}
 use Rattle.replayer.specs.Replays.{Replays}
 use Rattle.gate_core.specs.declared.verdict.Verdict.{Verdict}
 use Rattle.gate_core.specs.declared.take.Take.TheVariants.{Got}
-use Rattle.gate_core.specs.Core.{CoreState, TakeNext, Post, after_event, reached, IsSound, May}
+use Rattle.gate_core.specs.Core.{CoreState, TakeNext, Post, after_event, reached, IsSound}
 use Rattle.gate_core.specs.Hub.{HubState, Gives, with_take, with_verdict, approved_at}
 use Rattle.gate_core.specs.Follow.{hub_of, Does}
 use Rattle.gate_core.proofs.CoreLaws.{event_IsSound}

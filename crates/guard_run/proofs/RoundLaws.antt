@@ -1,10 +1,10 @@
 -- A round of turns, where the core stands.
-use Rattle.std.proofs.Common.{◌≡◌, ◌⊎◌, inl, inr, ℕ, zero, suc, ◌+◌, ◌-◌, ◌<◌, ◌≤◌, Bool, true, false, cond, List, [], ◌∷◌, length, take, drop, refl, sym, ap, subst, ◌∙◌, arith}
+use Rattle.std.proofs.Common.{◌≡◌, ◌⊎◌, inl, inr, ℕ, ◌+◌, ◌-◌, ◌<◌, Bool, true, false, cond, List, length, refl, sym, ap, subst, ◌∙◌, arith}
 use Rattle.std.specs.Prelude.{min, slice_index}
 use Rattle.std.proofs.lemmas.List.{length-drop}
 use Rattle.after_edge.specs.Sink.{Adds, AddsPart}
 use Rattle.machine_model.specs.Items.{items}
-use Rattle.gate_core.specs.Core.{CoreState, Append, Close, after_event, reached, IsSound}
+use Rattle.gate_core.specs.Core.{CoreState, Append, Close, after_event, reached}
 use Rattle.gate_core.specs.Hub.{HubState}
 use Rattle.guard_run.specs.declared.parts.Parts.{Parts}
 use Rattle.guard_run.specs.declared.parts.Recorded.{Recorded}
@@ -14,7 +14,7 @@ use Rattle.guard_run.specs.declared.replica.Turn.{Turn}
 use Rattle.guard_run.specs.declared.replica.Turn.TheVariants.{Took, Empty, Closed}
 use Rattle.guard_run.specs.Course.{Course, run_of, log_of, stop_of, plan_of}
 use Rattle.guard_run.specs.Gates.{Gates}
-use Rattle.guard_run.specs.Replicas.{Follows, Turned, taken_by, verdict_of, after_turn}
+use Rattle.guard_run.specs.Replicas.{Follows, Turned, taken_by, after_turn}
 use Rattle.guard_run.specs.Runs.{IsAt, IsIdle, HasPassed, HasReleased, HasBroken, HasBrokenRound, Records, bytes_between, turns_left, with_released}
 use Rattle.guard_run.specs.Sources.{still_to_come}
 use Rattle.guard_run.proofs.CourseLaws.{reach_less}

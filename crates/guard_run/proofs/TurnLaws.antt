@@ -1,5 +1,5 @@
 -- A turn of the gate, where the core stands.
-use Rattle.std.proofs.Common.{◌≡◌, ◌⊎◌, inl, inr, ℕ, zero, suc, ◌+◌, ◌-◌, ◌<◌, ◌≤◌, Bool, true, false, List, [], ◌∷◌, length, take, drop, Option, Some, None, refl, sym, ap, subst, ◌∙◌, arith}
+use Rattle.std.proofs.Common.{◌≡◌, inr, ℕ, ◌+◌, ◌<◌, ◌≤◌, true, false, List, take, refl, sym, ap, subst, ◌∙◌, arith}
 use Rattle.std.specs.Prelude.{min, nat_lt, slice_index}
 use Rattle.after_edge.specs.Sink.{Adds, AddsPart}
 use Rattle.after_edge.proofs.SinkLaws.{Adds-same, AddsPart-same}
@@ -8,11 +8,10 @@ use Rattle.gate_core.specs.Core.{CoreState, reached, IsSound}
 use Rattle.gate_core.specs.Hub.{verdict_at}
 use Rattle.output_gate.specs.Gate.{GateState, count_below, with_failure, with_release, with_withheld}
 use Rattle.guard_run.specs.declared.parts.Parts.{Parts}
-use Rattle.guard_run.specs.Course.{Course, run_of, log_of, output_of, stop_of, plan_of}
-use Rattle.guard_run.specs.Gates.{Gates, issued_by, still_waiting}
+use Rattle.guard_run.specs.Course.{Course, stop_of, plan_of}
+use Rattle.guard_run.specs.Gates.{Gates}
 use Rattle.guard_run.specs.Replicas.{Follows, taken_by, verdict_of}
-use Rattle.guard_run.specs.Runs.{IsAt, IsBroken, HasReleased, HasBroken, with_released, bytes_between}
-use Rattle.guard_run.proofs.ListLaws.{steps_of, count-before}
+use Rattle.guard_run.specs.Runs.{IsAt, HasReleased, HasBroken, with_released}
 use Rattle.guard_run.proofs.ReleaseLaws.{after_release, put_is, release_sound, none_waits, none_withheld, after_withhold}
 
 -- the same run with another gate

@@ -1,5 +1,5 @@
 -- What stands when a run is over.
-use Rattle.std.specs.Prelude.{◌≡◌, ℕ, true, List, [], ◌∷◌, length, take, reverse, Option, Some, None, option_map}
+use Rattle.std.specs.Prelude.{◌≡◌, true, List, [], ◌∷◌, length, take, reverse, Option, Some, None, option_map}
 use Rattle.list_laws.specs.Prefix.{IsPrefix}
 use Rattle.circular_buffer.specs.Buffer.{keep_last}
 use Rattle.run_events.specs.declared.record.Record.{Record}
@@ -7,7 +7,6 @@ use Rattle.run_events.specs.declared.record.Record.TheVariants.{Load, Lines, Dma
 use Rattle.run_events.specs.Record.{reach}
 use Rattle.analysis_set.specs.declared.head.RunFacts.{RunFacts}
 use Rattle.analysis_set.specs.Analysis.{HasSeen, made_of}
-use Rattle.gate_core.specs.Hub.{hub_state}
 use Rattle.guard_run.specs.declared.closing.Ending.{Ending}
 use Rattle.guard_run.specs.declared.closing.Closing.{Closing}
 use Rattle.guard_run.specs.Course.{Course, run_of, log_of, released_bytes}

@@ -4,7 +4,6 @@ use Rattle.std.specs.Prelude.{◌≡◌, ℕ, ◌≤◌, List, [], ◌∷◌, ma
 use Rattle.run_events.specs.declared.record.Record.{Record}
 use Rattle.machine_model.specs.State.{State}
 use Rattle.machine_model.specs.Run.{Finished, run_from, output, log}
-use Rattle.machine_model.specs.Items.{Item, items}
 use Rattle.analysis_model.specs.Made.{code_made_of, kind_made_of}
 use Rattle.analysis_model.specs.Job.{least_refused, released_of}
 use Rattle.gate_core.specs.Core.{Plan}

@@ -1,6 +1,5 @@
 -- A replica beside the hub, where the core stands.
-use Rattle.std.specs.Prelude.{◌≡◌, ℕ, ◌*◌, ◌<◌, true, false, nat_lt, List, [], ◌∷◌, length, min, take, reverse, slice_index}
-use Rattle.run_events.specs.declared.record.Record.{Record}
+use Rattle.std.specs.Prelude.{◌≡◌, ℕ, ◌*◌, ◌<◌, true, false, nat_lt, [], ◌∷◌, length, min, take, reverse, slice_index}
 use Rattle.analysis_set.specs.Analysis.{HasSeen, kib_of, made_of}
 use Rattle.replayer.specs.Replays.{Replays}
 use Rattle.gate_core.specs.declared.verdict.Verdict.{Verdict}

@@ -1,5 +1,5 @@
 -- A run under way, where the core stands, and what each turn makes of it.
-use Rattle.std.specs.Prelude.{◌≡◌, ◌⊎◌, ℕ, ◌+◌, ◌≤◌, ◌<◌, Bool, true, false, if◌then◌else◌, List, [], length, take, drop, map}
+use Rattle.std.specs.Prelude.{◌≡◌, ◌⊎◌, ℕ, ◌+◌, ◌≤◌, ◌<◌, true, false, if◌then◌else◌, List, [], length, take, drop, map}
 use Rattle.after_edge.specs.Sink.{Adds, AddsPart}
 use Rattle.run_events.specs.declared.finding.Kind.{Kind}
 use Rattle.machine_model.specs.Image.{Image}

@@ -1,5 +1,5 @@
 -- What a replica says of the steps that it has seen.
-use Rattle.std.specs.Prelude.{ℕ, Bool, true, false, Option, Some, None}
+use Rattle.std.specs.Prelude.{ℕ, true, false, Option, Some, None}
 use Rattle.gate_core.specs.declared.verdict.Verdict.{Verdict}
 
 -- it approves up to its first finding, and refuses the rest; or it approves all that it has seen

@@ -28,12 +28,7 @@ pub struct Source {
 
 impl Source {
     /// The recorder of a guest before its first step.
-    pub fn new(
-        alloc: Global,
-        image: &Image,
-        ram_kib: u32,
-        limit: u32,
-    ) -> Result<Source, NoMemory>
+    pub fn new(alloc: Global, image: &Image, ram_kib: u32, limit: u32) -> Result<Source, NoMemory>
         requires least { 64 ≤ ram_kib }
         requires most { ram_kib ≤ 16384 }
         requires limit { limit ≤ 1000000000 }

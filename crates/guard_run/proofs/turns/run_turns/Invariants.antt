@@ -1,5 +1,4 @@
-use Rattle.std.proofs.Common.{◌≡◌, ◌≤◌}
-use Rattle.after_edge.specs.Sink.{Adds}
+use Rattle.std.proofs.Common.{◌≤◌}
 use Rattle.guard_run.specs.Course.{Course}
 use Rattle.guard_run.specs.Runs.{IsOpened, IsOnItsWay, turns_left}
 use Rattle.guard_run.proofs.turns.run_turns.Given as goal

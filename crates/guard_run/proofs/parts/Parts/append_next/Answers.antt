@@ -1,11 +1,10 @@
-use Rattle.std.proofs.Common.{◌≡◌, ◌∷◌, [], true, false, None, Some, Ok, Err, Result, Option, List, ◌++◌, arith, ◌<◌, refl, sym, ap, subst, ◌∙◌}
+use Rattle.std.proofs.Common.{◌≡◌, [], None, Some, ◌++◌, arith, sym, ap, subst, ◌∙◌}
 use Rattle.std.specs.Result.{result_err}
-use Rattle.gate_core.specs.declared.full.Full.{Full}
 use Rattle.gate_core.specs.Hub.{HubState, full_of, with_append}
 use Rattle.guard_run.specs.Gates.{with_item}
 use Rattle.guard_run.specs.Runs.{HasAppended, HasClosed, HasWaited}
 use Rattle.guard_run.specs.Sources.{item_of, items_of, still_to_come}
-use Rattle.guard_run.proofs.AppendLaws.{short, after_close, next, rises, after_append, waits_for_gate, waits_for_log, closed_before}
+use Rattle.guard_run.proofs.AppendLaws.{short, after_close, next, rises, after_append, waits_for_log}
 use Rattle.guard_run.proofs.parts.Parts.append_next.Goals as goal
 
 pub returns-in_default : goal.returns-in_default

@@ -1,4 +1,4 @@
-use Rattle.std.proofs.Common.{◌≡◌, ◌⊎◌, inl, inr, Bool, true, false, sym, ◌∙◌, ap, subst}
+use Rattle.std.proofs.Common.{◌≡◌, ◌⊎◌, inl, inr, Bool, true, false, sym, ◌∙◌, subst}
 use Rattle.gate_core.specs.Core.{CoreState}
 use Rattle.gate_core.specs.Hub.{HubState}
 use Rattle.guard_run.specs.declared.replica.Replica.{Replica}

@@ -1,4 +1,4 @@
-use Rattle.std.proofs.Common.{◌≡◌, ◌-◌}
+use Rattle.std.proofs.Common.{◌-◌}
 use Rattle.std.specs.Prelude.{slice_index}
 use Rattle.gate_core.specs.Core.{CoreState}
 use Rattle.guard_run.specs.Course.{Course}

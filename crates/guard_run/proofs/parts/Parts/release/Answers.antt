@@ -1,4 +1,4 @@
-use Rattle.std.proofs.Common.{◌≡◌, ◌≤◌, sym, ap, subst, ◌∙◌}
+use Rattle.std.proofs.Common.{sym, ap, subst, ◌∙◌}
 use Rattle.output_gate.specs.Gate.{with_withheld}
 use Rattle.guard_run.specs.Runs.{HasReleased}
 use Rattle.guard_run.proofs.TurnLaws.{with_gate, looked, passed_low, released_on, released_last, broken_off}

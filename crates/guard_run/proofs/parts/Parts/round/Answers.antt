@@ -1,8 +1,4 @@
-use Rattle.gate_core.specs.Core.{CoreState}
-use Rattle.guard_run.specs.Course.{Course}
-use Rattle.guard_run.specs.Runs.{IsIdle}
-use Rattle.guard_run.proofs.RoundLaws.{IsRecorded, IsCaughtUp, with_replica, recorded_by, caught_up, passed, broken}
-use Rattle.guard_run.proofs.parts.Parts.round.Given.{Over}
+use Rattle.guard_run.proofs.RoundLaws.{with_replica, recorded_by, caught_up, passed, broken}
 use Rattle.guard_run.proofs.parts.Parts.round.Goals as goal
 
 pub turn-turn-requires : goal.turn-turn-requires

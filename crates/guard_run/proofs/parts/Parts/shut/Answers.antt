@@ -1,8 +1,8 @@
-use Rattle.std.proofs.Common.{◌≡◌, false, refl, sym, ap, subst}
+use Rattle.std.proofs.Common.{refl, sym, subst}
 use Rattle.gate_core.specs.Core.{Close, after_event}
 use Rattle.gate_core.specs.Hub.{HubState}
 use Rattle.guard_run.specs.Course.{plan_of}
-use Rattle.guard_run.specs.Runs.{IsShut, IsBroken}
+use Rattle.guard_run.specs.Runs.{IsBroken}
 use Rattle.guard_run.proofs.EndLaws.{with_hub, closes_broken}
 use Rattle.guard_run.proofs.parts.Parts.shut.Goals as goal
 

@@ -54,10 +54,9 @@ post-requires-clause-rises c =
     (rises of core c.args.hub.now c.args.self.now f c.in-Got.item c.in-Got.ensures.gives c.verdict.result (verdict c of core f))
 
 pub returns-in-Ok : goal.returns-in-Ok
-returns-in-Ok c = λ of core f.
-    (
-      took_less of core c.args.hub.now c.args.self.now f c.in-Got.item c.in-Got.ensures.gives,
-      subst (λ h. Follows of (after_turn of core) h (replica_now c.before)) (sym (c.post.ensures ∙ ap (λ h. with_verdict h c.args.self.now.reader c.verdict.result) c.take.ensures.after))
-          (after_took of core c.args.hub.now c.args.self.now f c.in-Got.item c.in-Got.ensures.gives (replica_now c.before) (fed c.before of core f) (made c.before of core f) (seen c.before of core f)
-          c.verdict.result (verdict c.before of core f) refl (c.take-in-Got.ensures.ram ∙ f.size ∙ ap (λ n. 1024 * n) (sym c.take-in-Got.ensures.size))),
-    )
+returns-in-Ok c = λ of core f. (
+  took_less of core c.args.hub.now c.args.self.now f c.in-Got.item c.in-Got.ensures.gives,
+  subst (λ h. Follows of (after_turn of core) h (replica_now c.before)) (sym (c.post.ensures ∙ ap (λ h. with_verdict h c.args.self.now.reader c.verdict.result) c.take.ensures.after))
+      (after_took of core c.args.hub.now c.args.self.now f c.in-Got.item c.in-Got.ensures.gives (replica_now c.before) (fed c.before of core f) (made c.before of core f) (seen c.before of core f)
+      c.verdict.result (verdict c.before of core f) refl (c.take-in-Got.ensures.ram ∙ f.size ∙ ap (λ n. 1024 * n) (sym c.take-in-Got.ensures.size))),
+)
