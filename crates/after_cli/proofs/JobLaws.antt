@@ -4,7 +4,6 @@ use Rattle.std.specs.Option.{option_map}
 use Rattle.list_laws.proofs.PrefixLaws.{whole_IsPrefix}
 use Rattle.run_events.specs.declared.event.Event.{Event}
 use Rattle.run_events.specs.declared.finding.Kind.TheVariants.{Cover}
-use Rattle.machine_model.specs.Image.{flat_image}
 use Rattle.analysis_model.specs.Made.{kind_made_of, code_made_of}
 use Rattle.analysis_model.specs.Report.{Facts, head_text, part_text, run_facts, text}
 use Rattle.analysis_set.specs.declared.analysis.AnyAnalysis.{AnyAnalysis}

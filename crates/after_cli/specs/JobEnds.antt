@@ -1,5 +1,5 @@
 -- What a run of a job leaves, and what each end of it means.
-use Rattle.std.specs.Prelude.{◌≡◌, ℕ, List, Option, Some, option_map}
+use Rattle.std.specs.Prelude.{◌≡◌, ℕ, List, Some, option_map}
 use Rattle.after_edge.specs.Fault.{Rose}
 use Rattle.after_edge.specs.Sink.{Adds, AddsPart}
 use Rattle.analysis_model.specs.Job.{Job, status}

@@ -1,4 +1,4 @@
-use Rattle.std.proofs.Common.{◌≡◌, ◌≤◌, ◌++◌, ◌∙◌, arith}
+use Rattle.std.proofs.Common.{arith}
 use Rattle.after_edge.proofs.SinkLaws.{Adds-same, Adds-then, AddsPart-more, AddsPart-same, AddsPart-then}
 use Rattle.guard_run.specs.Course.{released_bytes}
 use Rattle.after_cli.specs.Job.{course_of, cover_job, report_text}

@@ -1,4 +1,4 @@
-use Rattle.std.proofs.Common.{◌≡◌, Some, sym, ◌∙◌}
+use Rattle.std.proofs.Common.{sym, ◌∙◌}
 use Rattle.after_edge.proofs.SinkLaws.{Adds-same, AddsPart-same}
 use Rattle.guard_run.specs.Course.{run_of}
 use Rattle.after_cli.proofs.JobLaws.{told_report, told_seen}

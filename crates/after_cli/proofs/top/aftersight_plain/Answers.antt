@@ -49,4 +49,4 @@ pub returns-clause-unopened : goal.returns-clause-unopened
 returns-clause-unopened g c = λ of.
     c.closing.ensures
     ∙ unopened (g.F.Files.content c.args.files.now) (map string_bytes c.args.words.now) (g.F.Files.faults c.args.files.now) (g.F.Files.faults c.answer_words-answer.new.files) g.O.Sink.holds g.O.Sink.faults c.args.out.now c.answer_words-answer.new.out
-      c.answer_words-answer.result c.answer_words-answer.ensures.means (subst IsOfRefusal c.status-status.ensures of)
+    c.answer_words-answer.result c.answer_words-answer.ensures.means (subst IsOfRefusal c.status-status.ensures of)

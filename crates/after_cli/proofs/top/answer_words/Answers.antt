@@ -1,8 +1,7 @@
 use Rattle.std.proofs.Common.{map, string_bytes, sym, subst}
 use Rattle.analysis_model.specs.Job.{Job}
-use Rattle.after_cli.specs.Job.{default_job}
 use Rattle.after_cli.specs.JobEnds.{JobEnds}
-use Rattle.after_cli.specs.Means.{Means, answer_of}
+use Rattle.after_cli.specs.Means.{Means}
 use Rattle.after_cli.proofs.AnswerLaws.{of_end}
 use Rattle.after_cli.proofs.DefaultJob.{cover_job-default}
 use Rattle.after_cli.proofs.top.answer_words.Goals as goal
