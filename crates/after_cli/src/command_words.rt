@@ -1,3 +1,4 @@
+//! Which words are a run that is built.
 ghost use Rattle.std.specs.Prelude.{◌≡◌, ◌↔◌, map, IsTrue, MatchOption, string_bytes};
 ghost use Rattle.after_cli.specs.Words.{NamesRun, NamesNoRun, is_plain};
 

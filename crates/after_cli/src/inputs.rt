@@ -1,3 +1,4 @@
+//! The files of a run, read within their limits.
 ghost use Rattle.std.specs.Prelude.{◌≡◌, ◌≤◌, IfOk, IfErr};
 ghost use Rattle.after_cli.specs.Inputs.{AreInputs, HasRefusalCause, is_elf, refusal_of};
 

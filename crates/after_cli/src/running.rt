@@ -1,3 +1,4 @@
+//! A job from its opening to its report.
 ghost use Rattle.std.specs.Prelude.{◌≡◌, ◌*◌, ◌≤◌, ◌++◌, List, length, IfOk, OnOk, OnErr};
 ghost use Rattle.after_edge.specs.Fault.{Rose};
 ghost use Rattle.after_edge.specs.Sink.{Adds, AddsPart};

@@ -1,3 +1,4 @@
+//! The top call, and what it answers.
 ghost use Rattle.std.specs.Prelude.{◌≡◌, ◌≤◌, ℕ, List, None, map, string_bytes};
 ghost use Rattle.after_cli.specs.Answer.{IsDone, OutputHasFailed, FilesHaveFailed, IsNotBuilt, IsOfDone, IsOfRefusal, IsStatus, IsToldRun, IsWhole, TellsLine, line_of};
 ghost use Rattle.after_edge.specs.Fault.{Rose};

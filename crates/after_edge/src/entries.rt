@@ -1,3 +1,4 @@
+//! The entries of files in memory, found by their names.
 ghost use Rattle.std.specs.Prelude.{◌≡◌, ◌++◌, [], ◌∷◌, is_some, not, option_copied, length, IsOk, OnOk, OnErr};
 ghost use Rattle.std.specs.List.{position};
 ghost use Rattle.after_edge.specs.MemoryFiles.{is_named, entry_of, file_of, changed, changed_or_added, with_room, with_no_file, filled, begun, appended, has_no_place, HasRoom};

@@ -1,3 +1,4 @@
+//! A name of files in memory, its file and its room.
 ghost use Rattle.std.specs.Prelude.{◌≡◌, ◌≤◌, ◌<◌, ◌+◌, ◌-◌, List, ℕ, [], ◌++◌, length, take, drop, min, max, not, vec_len, vec_capacity, if◌then◌else◌, Some, None, option_copied, IsOk, IfOk, OnOk, OnErr};
 ghost use Rattle.std.specs.Str.{bytes_eq};
 ghost use Rattle.std.specs.String.{string_bytes};

@@ -1,3 +1,4 @@
+//! The trait of files, and why a read gives nothing.
 ghost use Rattle.std.specs.Prelude.{◌≡◌, ◌<◌, ◌≤◌, List, ℕ, Option, length, take, IfOk, OnOk, OnErr};
 ghost use Rattle.after_edge.specs.Fault.{Rose};
 ghost use Rattle.after_edge.specs.Files.{Contents, IfTold, Reads, HasReadCause, Changes, IsBegun, MayBeBegun, IsAppended, MayBeAppended};

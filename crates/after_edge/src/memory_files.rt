@@ -1,3 +1,4 @@
+//! Files in memory, with failures that are planned.
 ghost use Rattle.std.specs.Prelude.{◌≡◌, ◌<◌, ◌≤◌, ◌==◌, ◌-◌, length, take, drop, min, is_err, option_copied, IsOk, IfOk, OnOk, OnErr};
 ghost use Rattle.std.specs.List.{list_any};
 ghost use Rattle.after_edge.specs.Fault.{Rose};

@@ -1,3 +1,4 @@
+//! A sink in memory, with failures that are planned.
 ghost use Rattle.std.specs.Prelude.{◌≡◌, ◌≤◌, ℕ, List, length, take, min, unwrap_or, vec_len, vec_capacity, is_err, IfOk, OnOk, OnErr};
 ghost use Rattle.after_edge.specs.Fault.{Rose, raised};
 ghost use Rattle.after_edge.specs.Sink.{Adds, AddsPart};

@@ -1,3 +1,4 @@
+//! A file read whole, within a limit.
 ghost use Rattle.std.specs.Prelude.{◌≡◌, ◌<◌, ◌≤◌, Some, length, vec_len, IfOk};
 ghost use Rattle.after_edge.specs.Files.{IfTold};
 ghost use Rattle.after_edge.specs.Reading.{HasFileCause};

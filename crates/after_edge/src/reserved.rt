@@ -1,3 +1,4 @@
+//! Bytes added to a vector that has room for them.
 ghost use Rattle.std.specs.Prelude.{◌≡◌, ◌+◌, ◌≤◌, ◌++◌, length, vec_len, vec_capacity};
 
 // Adds bytes that there is room for, so that no memory is taken.

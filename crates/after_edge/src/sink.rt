@@ -1,3 +1,4 @@
+//! The trait of sinks.
 ghost use Rattle.std.specs.Prelude.{◌≤◌, List, ℕ, OnOk, OnErr};
 ghost use Rattle.after_edge.specs.Fault.{Rose};
 ghost use Rattle.after_edge.specs.Sink.{Adds, AddsPart};

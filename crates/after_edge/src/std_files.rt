@@ -1,3 +1,4 @@
+//! The host's files.
 ghost use Rattle.std.specs.Prelude.{◌≡◌, ◌<◌, ◌≤◌, ◌↔◌, ℕ, List, length, take, if◌then◌else◌, is_err, IfOk, OnOk, OnErr};
 ghost use Rattle.std.specs.declared.io.ErrorKind.TheVariants.{NotFound};
 ghost use Rattle.std.specs.IoError.{error_kind};

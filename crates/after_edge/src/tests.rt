@@ -1,3 +1,4 @@
+//! What fakes hold, and when they fail.
 use crate::{
     Failed, FileFault, Files, MemoryFiles, MemorySink, ReadFault, Sink, StdFiles, StdSink, read_all,
 };

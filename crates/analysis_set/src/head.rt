@@ -1,3 +1,4 @@
+//! The first six lines of the report.
 ghost use Rattle.std.specs.Prelude.{◌≤◌, OnOk, OnErr};
 ghost use Rattle.after_edge.specs.Fault.{Rose};
 ghost use Rattle.after_edge.specs.Sink.{Adds, AddsPart};

@@ -1,3 +1,4 @@
+//! The lines of one analysis.
 ghost use Rattle.std.specs.Prelude.{◌≡◌, ◌<◌, ◌≤◌, List, slice_index_or, length, OnOk, OnErr, take};
 ghost use Rattle.std.specs.List.{flat_map};
 ghost use Rattle.run_events.specs.declared.event.Event.{Event};

@@ -1,3 +1,4 @@
+//! That an analysis crosses threads.
 use crate::AnyAnalysis;
 
 // An analysis may be handed to another thread.

@@ -1,3 +1,4 @@
+//! The texts of head and part, and a sink that fails between them.
 ghost use Rattle.std.specs.Prelude.{◌≡◌, IfOk};
 ghost use Rattle.analysis_set.specs.Analysis.{kib_of};
 

@@ -1,3 +1,4 @@
+//! The ranges of addresses that hold code.
 ghost use Rattle.std.specs.Prelude.{◌≡◌, IfOk};
 ghost use Rattle.analysis_model.specs.Cover.{is_within};
 ghost use Rattle.analysis_model.specs.Made.{code_numbers, spans_made_of};

@@ -1,3 +1,4 @@
+//! Coverage: marks a word of RAM, and findings.
 ghost use Rattle.std.specs.Prelude.{◌≡◌, ℕ, ◌*◌, ◌<◌, ◌≤◌, List, [], ◌∷◌, ◌++◌, length, slice_get, IfOk};
 ghost use Rattle.run_events.specs.declared.event.Event.{Event};
 ghost use Rattle.run_events.specs.declared.finding.Kind.TheVariants.{Cover};

@@ -1,3 +1,4 @@
+//! Counts and ranges of marks.
 ghost use Rattle.std.specs.Prelude.{◌≡◌, ◌<◌, ◌≤◌, true, ◌∷◌, length, slice_get};
 ghost use Rattle.analysis_model.specs.Cover.{runs};
 ghost use Rattle.coverage_map.specs.Coverage.{marked};

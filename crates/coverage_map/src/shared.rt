@@ -1,3 +1,4 @@
+//! That coverage crosses threads.
 use crate::Coverage;
 
 // A coverage may be handed to another thread, and be read by several.

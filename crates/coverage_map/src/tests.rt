@@ -1,3 +1,4 @@
+//! Ranges and findings of short runs.
 ghost use Rattle.std.specs.Prelude.{◌≡◌, ◌%◌, ◌<◌};
 ghost use Rattle.run_events.specs.Event.{Fits};
 

@@ -1,3 +1,4 @@
+//! Images, how a flat file gives one, and how one is loaded.
 ghost use Rattle.std.specs.Prelude.{◌≡◌, ◌+◌, ◌<◌, ◌≤◌, ◌^◌, ℕ, List, length, IfOk};
 ghost use Rattle.machine_model.specs.Image.{flat_image, ram_with, IsLoadable};
 

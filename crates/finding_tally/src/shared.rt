@@ -1,3 +1,4 @@
+//! That a tally crosses threads.
 use crate::Tally;
 
 // A tally may be handed to another thread, and be read by several.

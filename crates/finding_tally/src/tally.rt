@@ -1,3 +1,4 @@
+//! The tally of findings.
 ghost use Rattle.std.specs.Prelude.{◌≡◌, ◌≤◌, List, [], ◌∷◌, ◌++◌, length, take};
 ghost use Rattle.run_events.specs.declared.finding.Finding.{Finding};
 ghost use Rattle.finding_tally.specs.Tallied.{Tallies, with_finding};

@@ -1,3 +1,4 @@
+//! More findings than are kept.
 use crate::Tally;
 use run_events::{Finding, FindingKind};
 

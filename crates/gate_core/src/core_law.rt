@@ -1,3 +1,4 @@
+//! The laws of the gate's order.
 ghost use Rattle.gate_core.specs.Core.{ReleasesAll, StaysSound};
 
 /// A law of the core, with nothing to run: every list of its events leads from the opening state to a sound one.

@@ -1,3 +1,5 @@
+//! The answer that a log is full.
+
 /// The log has no place for a record, because of this reader, which has taken this many.
 #[derive(Clone, Copy, Debug, PartialEq, Eq)]
 pub struct Full {

@@ -1,3 +1,4 @@
+//! The law that the hub follows the gate's order.
 ghost use Rattle.gate_core.specs.Follow.{Opens, Appends, Refuses, Takes, Waits, Closes, Posts};
 
 /// A law of the hub, with nothing to run: over the records of a plan each call is its event of the core. A new hub stands

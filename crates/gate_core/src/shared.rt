@@ -1,3 +1,4 @@
+//! That a hub crosses threads.
 use crate::Hub;
 
 // A hub may be handed to another thread.

@@ -1,3 +1,4 @@
+//! What a reader gets.
 use run_events::Record;
 
 /// What a reader gets of a log.

@@ -1,3 +1,4 @@
+//! Two readers of a small log, and a verdict.
 use crate::{Full, Hub, Take, Verdict};
 use run_events::Record;
 use std::io;

@@ -1,3 +1,4 @@
+//! What stands when a run is over.
 ghost use Rattle.std.specs.Prelude.{◌≡◌, ◌<◌, length, slice_index};
 ghost use Rattle.gate_core.specs.Hub.{IsHub};
 ghost use Rattle.guard_run.specs.Closings.{facts_at};

@@ -1,3 +1,5 @@
+//! The numbers of a run.
+
 /// How a guest is run.
 #[derive(Clone, Copy, Debug, PartialEq, Eq)]
 pub struct RunJob {

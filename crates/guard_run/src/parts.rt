@@ -1,3 +1,4 @@
+//! The parts of a run, and the turns of its recorder and its gate.
 ghost use Rattle.std.specs.Prelude.{◌≡◌, ◌*◌, ◌%◌, ◌-◌, ◌<◌, ◌≤◌, ◌∷◌, ◌&&◌, [], true, false, length, is_some, IsTrue, IfOk, IfSome, OnOk, OnErr};
 ghost use Rattle.after_edge.specs.Fault.{Rose};
 ghost use Rattle.machine_model.specs.Image.{IsLoadable};

@@ -1,3 +1,4 @@
+//! A replica, and its turn.
 ghost use Rattle.std.specs.Prelude.{◌≡◌, ◌*◌, ◌≤◌, ◌%◌, [], List, length, IfOk, slice_index};
 ghost use Rattle.run_events.specs.declared.event.Event.{Event};
 ghost use Rattle.machine_model.specs.Image.{IsLoadable};

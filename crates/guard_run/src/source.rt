@@ -1,3 +1,4 @@
+//! The recorder, and the entry that waits for its place.
 ghost use Rattle.std.specs.Prelude.{◌≡◌, ◌*◌, ◌%◌, ◌≤◌, ◌∷◌, ◌++◌, [], None, IfOk, IfSome};
 ghost use Rattle.run_events.specs.Record.{IsRecord};
 ghost use Rattle.machine_model.specs.Image.{IsLoadable};

@@ -1,3 +1,4 @@
+//! The run of all turns, to its end or to a failed put.
 ghost use Rattle.std.specs.Prelude.{◌≡◌, ◌≤◌, ◌∷◌, [], true, OnOk, OnErr, IfOk};
 ghost use Rattle.after_edge.specs.Fault.{Rose};
 ghost use Rattle.gate_core.specs.Core.{CoreState};

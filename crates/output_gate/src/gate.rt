@@ -1,3 +1,4 @@
+//! The gate: bytes that wait for their steps.
 ghost use Rattle.std.specs.Prelude.{◌≡◌, ◌+◌, ◌<◌, ◌≤◌, false, length, take, drop, is_err, IfOk, OnOk, OnErr};
 ghost use Rattle.after_edge.specs.Fault.{Rose};
 ghost use Rattle.after_edge.specs.Sink.{Adds, AddsPart};

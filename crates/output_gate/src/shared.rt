@@ -1,3 +1,4 @@
+//! That a gate crosses threads.
 use crate::OutputGate;
 
 // A gate may be handed to another thread.

@@ -1,3 +1,4 @@
+//! What a gate puts, keeps and counts.
 use crate::{GateFull, OutputGate, SinkFault};
 use after_edge::MemorySink;
 use std::io;

@@ -1,3 +1,5 @@
+//! Why a list of records does not fit.
+
 /// What is wrong with a record.
 #[derive(Clone, Copy, Debug, PartialEq, Eq)]
 pub enum Why {

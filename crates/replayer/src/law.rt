@@ -1,3 +1,4 @@
+//! The law that a run's own log fits.
 ghost use Rattle.std.specs.Prelude.{◌≡◌, ℕ, List, None, take};
 ghost use Rattle.list_laws.specs.Prefix.{IsPrefix};
 ghost use Rattle.run_events.specs.declared.record.Record.{Record};

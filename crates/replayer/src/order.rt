@@ -1,3 +1,4 @@
+//! The order of records.
 ghost use Rattle.std.specs.Prelude.{◌≡◌, ◌≤◌, List, IsTrue};
 ghost use Rattle.run_events.specs.Record as order;
 ghost use Rattle.machine_model.specs.Replay.{is_taken};

@@ -1,3 +1,4 @@
+//! Where a run ends, held against a record.
 ghost use Rattle.std.specs.Prelude.{◌≡◌};
 ghost use Rattle.machine_model.specs.Replay as model;
 ghost use Rattle.replayer.specs.Place as spec;

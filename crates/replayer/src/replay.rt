@@ -1,3 +1,4 @@
+//! The replay, fed record by record.
 use crate::order::{is_admitted, number};
 use crate::place::place;
 use crate::running::run_to;

@@ -1,3 +1,4 @@
+//! The steps below a number, executed and shown.
 ghost use Rattle.std.specs.Prelude.{◌≡◌, ◌*◌, ◌<◌, ◌≤◌, ◌++◌, List, None, length};
 ghost use Rattle.run_events.specs.declared.event.Event.{Event as Shown};
 ghost use Rattle.machine_model.specs.State.{State};

@@ -1,3 +1,4 @@
+//! Lists that fit and lists that do not.
 ghost use Rattle.std.specs.Prelude.{◌≡◌, [], length, IfOk, IsTrue};
 ghost use Rattle.run_events.specs.Record.{IsRecord};
 ghost use Rattle.machine_model.specs.Replay.{is_taken};

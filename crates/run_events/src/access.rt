@@ -1,3 +1,5 @@
+//! What an instruction does to memory and devices.
+
 /// What the argument registers x10, x11 and x12 held before an instruction.
 #[derive(Clone, Copy, Debug, PartialEq, Eq)]
 pub struct Told {

@@ -1,3 +1,4 @@
+//! Events, one a step.
 use crate::{Access, Told};
 
 /// What one step of the machine did, or one word that the disk wrote before a step.

@@ -1,3 +1,5 @@
+//! Findings, their kinds, and the kinds of analyses.
+
 /// The five analyses, in the order of their numbers from 0.
 #[derive(Clone, Copy, Debug, PartialEq, Eq)]
 pub enum Kind {

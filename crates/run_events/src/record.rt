@@ -1,3 +1,5 @@
+//! Records, and why a run ended.
+
 /// Why a run ended.
 #[derive(Clone, Copy, Debug, PartialEq, Eq)]
 pub enum EndCause {

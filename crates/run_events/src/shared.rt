@@ -1,3 +1,4 @@
+//! That a record crosses threads.
 use crate::Record;
 
 // A record may be handed to another thread, and be read by several.

@@ -1,3 +1,4 @@
+//! The hart: state, fetch and step.
 ghost use Rattle.std.specs.Prelude.{◌≡◌, ◌*◌, ◌%◌, ◌<◌, ℕ, Some, length, slice_index, is_some, IsSome, IsNone};
 ghost use Rattle.run_events.specs.Event.{Fits};
 ghost use Rattle.machine_model.specs.State.{reset_state};

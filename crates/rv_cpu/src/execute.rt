@@ -1,3 +1,4 @@
+//! The effect of each instruction that is built.
 ghost use Rattle.std.specs.Prelude.{◌≡◌, ◌⊎◌, ◌*◌, ◌%◌, ◌<◌, ◌^◌, length, IsTrue};
 ghost use Rattle.machine_model.specs.Step.{fetched, register_plus, registers_after, result_of, is_device, ram_after, access_of, is_built, told_by};
 ghost use Rattle.rv_cpu.specs.Decoded.{NamesRegisters, read_as};

@@ -1,3 +1,4 @@
+//! The instructions that are built, read from their words.
 ghost use Rattle.std.specs.Prelude.{◌≡◌, ◌%◌, ◌<◌, ◌^◌, IfSome};
 ghost use Rattle.std.specs.Option.{option_map};
 ghost use Rattle.machine_model.specs.Instruction.{instruction, extended, immediate_i, immediate_s, immediate_u};

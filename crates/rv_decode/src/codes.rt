@@ -1,3 +1,4 @@
+//! The function codes of the operations, both ways.
 ghost use Rattle.std.specs.Prelude.{◌≡◌, ◌<◌};
 ghost use Rattle.rv_decode.specs.Words.{branch_code, load_code, store_code, immediate_code, register_code, register_code7, fence_code, atomic_code, csr_code};
 

@@ -1,3 +1,4 @@
+//! From a word to an instruction.
 ghost use Rattle.std.specs.Prelude.{◌≡◌, ℕ, ◌%◌, ◌^◌, ◌++◌, ◌≤◌, count_by, IfSome};
 ghost use Rattle.rv_decode.specs.Fields.{opcode_of};
 ghost use Rattle.rv_decode.specs.Listing.{meets, rows, instruction};

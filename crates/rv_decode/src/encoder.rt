@@ -1,3 +1,4 @@
+//! From an instruction to a word.
 ghost use Rattle.std.specs.Prelude.{◌≡◌};
 ghost use Rattle.rv_decode.specs.Listing.{instruction};
 ghost use Rattle.rv_decode.specs.Valid.{IsValid};

@@ -1,3 +1,4 @@
+//! The fields of a word, put together.
 ghost use Rattle.std.specs.Prelude.{◌≡◌, ℕ, ◌+◌, ◌*◌, ◌/◌, ◌%◌, ◌^◌, ◌<◌};
 ghost use Rattle.rv_decode.specs.Fields.{rd_of, funct3_of, rs1_of, rs2_of, immediate_i, immediate_s, immediate_b, immediate_u, immediate_j};
 

@@ -1,3 +1,4 @@
+//! Instructions and their fields.
 use crate::operations::{AtomicOp, BranchOp, CsrOp, FenceOp, ImmOp, LoadOp, RegOp, StoreOp};
 
 /// An instruction and its fields. `imm` is the immediate of the instruction's form, sign extended; in a shift by an

@@ -1,3 +1,4 @@
+//! Calls and returns, by their registers.
 ghost use Rattle.std.specs.Prelude.{◌≡◌, ◌==◌};
 ghost use Rattle.rv_decode.specs.Links.{is_link as links, hint, link_of};
 

@@ -1,3 +1,5 @@
+//! The operations that share a form.
+
 /// A conditional branch. (Unprivileged manual, 2.5.)
 #[derive(Clone, Copy, Debug, PartialEq, Eq)]
 pub enum BranchOp {

@@ -1,3 +1,4 @@
+//! Where the fields of a word stand.
 ghost use Rattle.std.specs.Prelude.{◌≡◌, ◌+◌, ◌<◌, ◌^◌};
 ghost use Rattle.rv_decode.specs.Valid.{IsOperand};
 ghost use Rattle.rv_decode.specs.Words.{joined as joined_word, joined_i as joined_word_i, joined_u as joined_word_u, bits_of, places_i, places_u, places_j, low_s as low_s_of, high_s as high_s_of, low_b as low_b_of, high_b as high_b_of, immediate_extra};

@@ -1,3 +1,4 @@
+//! Words that an assembler made, read and spelled.
 use crate::{
     AtomicOp, BranchOp, CsrOp, FenceOp, ImmOp, Instr, LoadOp, RegOp, StoreOp, decode, encode,
     is_valid,

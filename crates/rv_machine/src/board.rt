@@ -1,3 +1,4 @@
+//! What an event means to the recorder.
 ghost use Rattle.std.specs.Prelude.{◌≡◌, ◌+◌, ◌<◌, List, IfSome};
 ghost use Rattle.run_events.specs.Event.{step_of};
 ghost use Rattle.run_events.specs.Record.{IsRecord};

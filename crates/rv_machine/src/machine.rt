@@ -1,3 +1,4 @@
+//! The recorder.
 ghost use Rattle.std.specs.Prelude.{◌≡◌, ◌+◌, ◌*◌, ◌%◌, ◌<◌, ◌≤◌, IfOk, length, map};
 ghost use Rattle.run_events.specs.Record.{IsRecord};
 ghost use Rattle.machine_model.specs.Image.{IsLoadable};

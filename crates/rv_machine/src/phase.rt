@@ -1,3 +1,4 @@
+//! How far a recorder has come.
 use run_events::EndCause;
 
 /// How far a recorder has come.

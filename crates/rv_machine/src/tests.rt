@@ -1,3 +1,4 @@
+//! The records of short guests.
 use crate::{Advance, Machine};
 use elf_image::read_flat;
 use run_events::{EndCause, Record};

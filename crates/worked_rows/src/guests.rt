@@ -1,3 +1,5 @@
+//! Guests and their texts.
+
 // Guests as flat files, and the texts that they come to.
 
 /// Writes H and powers off.

@@ -1,3 +1,4 @@
+//! Whole runs, refusals and failing sinks.
 use crate::guests;
 use after_cli::aftersight_plain;
 use after_edge::{MemoryFiles, MemorySink};
