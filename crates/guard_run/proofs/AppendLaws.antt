@@ -1,5 +1,5 @@
 -- A turn of the recorder, where the core stands.
-use Rattle.std.proofs.Common.{◌≡◌, inl, inr, ℕ, ◌+◌, ◌-◌, ◌≤◌, Bool, true, false, [], ◌∷◌, length, take, Some, None, sym, ap, subst, ◌∙◌, arith}
+use Rattle.std.proofs.Common.{◌≡◌, inl, inr, ℕ, ◌+◌, ◌-◌, ◌≤◌, Bool, true, false, [], ◌∷◌, length, take, Some, None, sym, ap, subst, ◌∙◌, arith, refl}
 use Rattle.std.specs.Prelude.{◌&&◌, nat_eq, is_some, IfSome, slice_index}
 use Rattle.std.proofs.lemmas.List.{reverse-append}
 use Rattle.run_events.specs.Record.{number}
@@ -17,7 +17,7 @@ use Rattle.guard_run.specs.Closings.{end_at, end_in, end_back}
 use Rattle.guard_run.specs.Course.{Course, log_of, plan_of}
 use Rattle.guard_run.specs.Gates.{with_item}
 use Rattle.guard_run.specs.Replicas.{taken_by, verdict_of}
-use Rattle.guard_run.specs.Runs.{IsAt, HasAppended, HasClosed, HasWaited}
+use Rattle.guard_run.specs.Runs.{IsAt, HasAppended, HasClosed, HasWaited, next_has_byte}
 use Rattle.guard_run.specs.Sources.{item_of, still_to_come}
 use Rattle.guard_run.proofs.CourseLaws.{is_plan}
 use Rattle.guard_run.proofs.ItemLaws.{IsNext, next_item, no_item_left, log_short}
@@ -122,10 +122,12 @@ module _ (c : Course) (core : CoreState) (parts : Parts) (at : IsAt c core parts
     same_run back put = record { follows = at.follows; rest = at.rest ∙ given ∙ sym put; gates = at.gates; end = at.end; sound = at.sound }
 
     pub waits_for_gate : (back : Source) → still_to_come back ≡ item_of entry ∷ still_to_come source → (is_some entry.byte && is_full parts.gate) ≡ true → HasWaited c core parts (with_source parts back)
-    waits_for_gate back put crowded = record { crowded = inr (full_is (is_some entry.byte) (length parts.gate.steps) crowded); at = same_run back put }
+    waits_for_gate back put crowded = 
+        let both = full_is (is_some entry.byte) (length parts.gate.steps) crowded in
+        record { crowded = inr (both.0, ap next_has_byte given ∙ both.1); at = same_run back put }
       where
-        full_is : (b : Bool) (n : ℕ) → (b && nat_eq n 4096) ≡ true → n ≡ 4096
-        full_is true n is = grind (arith, is)
+        full_is : (b : Bool) (n : ℕ) → (b && nat_eq n 4096) ≡ true → (n ≡ 4096) × (b ≡ true)
+        full_is true n is = (grind (arith, is), refl)
         full_is false n is = cc
 
     pub waits_for_log : (back : Source) → still_to_come back ≡ item_of entry ∷ still_to_come source → (full : Full) → full_of parts.hub ≡ Some full

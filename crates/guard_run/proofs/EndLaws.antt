@@ -13,13 +13,13 @@ use Rattle.gate_core.specs.Hub.{HubState, with_close}
 use Rattle.gate_core.proofs.CoreLaws.{event_IsSound}
 use Rattle.guard_run.specs.declared.parts.Parts.{Parts}
 use Rattle.guard_run.specs.declared.replica.Replica.{Replica}
-use Rattle.guard_run.specs.Course.{Course, log_of, output_of, stop_of, plan_of, released_bytes}
-use Rattle.guard_run.specs.Gates.{issued_by, kept, still_waiting}
+use Rattle.guard_run.specs.Course.{Course, log_of, output_of, stop_of, plan_of, released_bytes, IsCourse}
+use Rattle.guard_run.specs.Gates.{issued_by, kept, still_waiting, released_by}
 use Rattle.guard_run.specs.Replicas.{Follows, after_turn}
 use Rattle.guard_run.specs.Runs.{IsIdle, IsBroken, IsOnItsWay, IsReadOut, HasEnded, HasStopped, HasBrokenRound, with_released, bytes_between}
 use Rattle.guard_run.proofs.ListLaws.{bytes_in, AllBelow, before-all, front-take}
 use Rattle.guard_run.proofs.CourseLaws.{is_plan}
-use Rattle.guard_run.proofs.ItemLaws.{issued_all}
+use Rattle.guard_run.proofs.ItemLaws.{issued_all, issued_IsPrefix}
 use Rattle.guard_run.proofs.ReleaseLaws.{kept_IsPrefix, released_below}
 
 -- the bytes up to a place, and on from there
@@ -34,17 +34,6 @@ between-then c p q le =
     take_less (suc p) zero xs le = absurd (omega (arith, le))
     take_less (suc p) (suc q) [] le = refl
     take_less (suc p) (suc q) (x ∷ xs) le = ap (λ l. x ∷ l) (take_less p q xs (omega (arith, le)))
-
--- the bytes that a sound core may have released are the first of those that the analysis lets out
-pub might_IsPrefix : (c : Course) (core : CoreState) → IsSound (plan_of c) core → IsPrefix (bytes_between c 0 core.released) (released_bytes c)
-might_IsPrefix c core sound =
-    let out = output_of c in
-    let q : ℕ = core.released in
-    let front : before_step (stop_of c) (take q out) ≡ take q out = before-all (stop_of c) (take q out) (released_below c core sound) in
-    IsPrefix-map (λ (byte : ℕ × ℕ). byte.1) (record {
-      rest = before_step (stop_of c) (drop q out);
-      joined = ap (λ l. l ++ before_step (stop_of c) (drop q out)) (sym front) ∙ sym (filter-append (λ (byte : ℕ × ℕ). nat_lt byte.0 (stop_of c)) (take q out) (drop q out)) ∙ ap (before_step (stop_of c)) (take-append-drop q out);
-    })
 
 -- where all was appended and nothing waits, all that the analysis lets out is released
 module _ (c : Course) (core : CoreState) (parts : Parts) (idle : IsIdle c core parts) (closed : core.closed ≡ true) where
@@ -92,12 +81,36 @@ module _ (c : Course) (core : CoreState) (parts : Parts) (idle : IsIdle c core p
     put = Adds-same holds old new (ap bytes_in released_is) put;
   }
 
+-- the bytes that a sound core may have released are the first of those that the analysis lets out of the appended records
+might_front : (c : Course) (core : CoreState) (count : ℕ) → IsCourse c → IsSound (plan_of c) (with_released core count) → count ≤ length (issued_by c core.appended) → IsPrefix (bytes_between c 0 count) (released_by c core.appended)
+might_front c core count is sound within =
+    let sent = issued_by c core.appended in
+    let same : take count sent ≡ take count (output_of c) = front-take count sent (output_of c) (issued_IsPrefix c is core.appended) within in
+    let below : AllBelow (stop_of c) (take count sent) = subst (AllBelow (stop_of c)) (sym same) (released_below c (with_released core count) sound) in
+    IsPrefix-map (λ (byte : ℕ × ℕ). byte.1) (record {
+      rest = before_step (stop_of c) (drop count sent);
+      joined = ap (λ l. l ++ before_step (stop_of c) (drop count sent)) (sym same ∙ sym (before-all (stop_of c) (take count sent) below))
+          ∙ sym (filter-append (λ (byte : ℕ × ℕ). nat_lt byte.0 (stop_of c)) (take count sent) (drop count sent)) ∙ ap (before_step (stop_of c)) (take-append-drop count sent);
+    })
+
+-- which is a front of all that it lets out
+pub released_by_IsPrefix : (c : Course) (is : IsCourse c) (count : ℕ) → IsPrefix (released_by c count) (released_bytes c)
+released_by_IsPrefix c is count =
+    let front = issued_IsPrefix c is count in
+    IsPrefix-map (λ (byte : ℕ × ℕ). byte.1) (record {
+      rest = before_step (stop_of c) front.rest;
+      joined = sym (filter-append (λ (byte : ℕ × ℕ). nat_lt byte.0 (stop_of c)) (issued_by c count) front.rest) ∙ ap (before_step (stop_of c)) front.joined;
+    })
+
 -- after a put that failed
 pub has_stopped : (c : Course) (core : CoreState) (round : Parts) (parts : Parts) {S : Type 0} (holds : S → List ℕ → Type 0) (first old new : S) → Adds holds first old (bytes_between c 0 core.released)
     → (b : HasBrokenRound c core round holds old new) → IsReadOut c (record b.next { failed = true }) parts → HasStopped c parts holds first new
 has_stopped c core round parts holds first old new put b out = record {
   stopped = record { core = out.last; broken = out.broken; closed = out.closed; taken = out.taken };
-  put = AddsPart-front holds first new (bytes_between c 0 b.count) (released_bytes c) (might_IsPrefix c (with_released b.next b.count) b.might)
+  put =
+      let appended : parts.hub.appended ≡ b.next.appended = (λ i. (out.broken.follows.stands i).appended) ∙ out.same in
+      AddsPart-front holds first new (bytes_between c 0 b.count) (released_by c parts.hub.appended)
+      (subst (λ n. IsPrefix (bytes_between c 0 b.count) (released_by c n)) (sym appended) (might_front c b.next b.count out.broken.follows.course b.might b.within))
       (AddsPart-same holds first new (between-then c core.released b.count b.more) (AddsPart-then holds first old new (bytes_between c 0 core.released) (bytes_between c core.released b.count) put b.put));
 }
 

@@ -70,6 +70,13 @@ module _ (c : Course) (is : IsCourse c) (from : Option ℕ) (a : ℕ) where
   kept_climbs : Climbs 0 (steps_of (kept from (issued_by c a))) (run_of c).steps
   kept_climbs = (kept_by from).0
 
+  kept_short_by : (o : Option ℕ) → length (kept o (issued_by c a)) ≤ length (issued_by c a)
+  kept_short_by None = omega arith
+  kept_short_by (Some step) = front-length (before_step step (issued_by c a)) (issued_by c a) (split_IsPrefix step (issued_by c a) (splits step 0 (run_of c).steps (issued_by c a) issued_climbs))
+
+  kept_short : length (kept from (issued_by c a)) ≤ length (issued_by c a)
+  kept_short = kept_short_by from
+
   kept_under_by : (low : ℕ) (o : Option ℕ) → AllBelow low (issued_by c a) → AllBelow low (kept o (issued_by c a))
   kept_under_by low None all = all
   kept_under_by low (Some step) all = All-filter (λ (byte : ℕ × ℕ). nat_lt byte.0 step) (λ (byte : ℕ × ℕ). byte.0 < low) (issued_by c a) all
@@ -116,6 +123,9 @@ module _ (c : Course) (is : IsCourse c) (core : CoreState) (gate : GateState) (g
 
     room : core.released + count_below below gate.steps ≤ length all_kept
     room = omega (arith, count_below-within below gate.steps, ap length g.steps, length-map (still_waiting c core gate.from) (λ (byte : ℕ × ℕ). byte.0), length-drop core.released all_kept, g.there)
+
+    pub within_issued : core.released + count_below below gate.steps ≤ length (issued_by c core.appended)
+    within_issued = omega (arith, room, kept_short c is gate.from core.appended)
 
     passed_below : behind gate.passed (take count gate.steps) ≤ below
     passed_below =
@@ -166,7 +176,7 @@ module _ (c : Course) (is : IsCourse c) (core : CoreState) (gate : GateState) (g
     only_reader reader (zero, less, is) = sym is
     only_reader reader (suc place, less, is) = absurd (omega (arith, less))
 
-    releasable : IsSound (plan_of c) core → core.failed ≡ false → 1 ≤ count_below below gate.steps → IsReleasable (plan_of c) core (count_below below gate.steps)
+    pub releasable : IsSound (plan_of c) core → core.failed ≡ false → 1 ≤ count_below below gate.steps → IsReleasable (plan_of c) core (count_below below gate.steps)
     releasable sound fine some = record {
       sound = fine;
       some = some;

@@ -15,7 +15,7 @@ use Rattle.guard_run.specs.declared.replica.Turn.TheVariants.{Took, Empty, Close
 use Rattle.guard_run.specs.Course.{Course, run_of, log_of, stop_of, plan_of}
 use Rattle.guard_run.specs.Gates.{Gates}
 use Rattle.guard_run.specs.Replicas.{Follows, Turned, taken_by, after_turn}
-use Rattle.guard_run.specs.Runs.{IsAt, IsIdle, HasPassed, HasReleased, HasBroken, HasBrokenRound, Records, bytes_between, turns_left, with_released}
+use Rattle.guard_run.specs.Runs.{IsAt, IsIdle, HasPassed, HasReleased, HasBroken, HasBrokenRound, Records, bytes_between, next_has_byte, turns_left, with_released}
 use Rattle.guard_run.specs.Sources.{still_to_come}
 use Rattle.guard_run.proofs.CourseLaws.{reach_less}
 use Rattle.guard_run.proofs.ItemLaws.{length_log}
@@ -44,9 +44,9 @@ recorded_by c core before after recorded.Appended idle turn =
 recorded_by c core before after recorded.Closed idle turn = record { next = after_event (plan_of c) core Close; at = turn.at; released = refl; how = inr (refl, idle.taken) }
 recorded_by c core before after recorded.Waits idle turn = absurd (no_wait turn.crowded)
   where
-    no_wait : ((taken_by core + c.cap ≡ core.appended) ⊎ (length before.gate.steps ≡ 4096)) → ⊥
+    no_wait : ((taken_by core + c.cap ≡ core.appended) ⊎ ((length before.gate.steps ≡ 4096) × (next_has_byte (still_to_come before.source) ≡ true))) → ⊥
     no_wait (inl full) = omega (arith, full, idle.taken, idle.at.follows.course.cap)
-    no_wait (inr full) = omega (arith, full, ap length idle.none)
+    no_wait (inr full) = omega (arith, full.0, ap length idle.none)
 recorded_by c core before after recorded.Over idle turn = record { next = core; at = subst (IsAt c core) (sym turn.1) idle.at; released = refl; how = inr (turn.0, idle.taken) }
 
 -- the same run with the hub and the replica of a turn
@@ -126,7 +126,7 @@ caught_up = caught_up_by
 -- the gate's turn ends the round
 module _ (c : Course) (core : CoreState) (turn : Turn) (before parts after : Parts) (idle : IsIdle c core before) (up : IsCaughtUp c core turn parts) where
   module _ {S : Type 0} (holds : S → List ℕ → Type 0) (old new : S) where
-    pub passed : HasReleased c up.next after holds old new → HasPassed c core turn before after holds old new
+    pub passed : HasReleased c up.next parts after holds old new → HasPassed c core turn before after holds old new
     passed r = record {
       next = with_released up.next r.count;
       idle = record { at = r.at; taken = up.taken; none = r.none up.taken };
@@ -144,6 +144,7 @@ module _ (c : Course) (core : CoreState) (turn : Turn) (before parts after : Par
       next = up.next;
       count = r.count;
       more = omega (arith, r.more, up.released);
+      within = r.within;
       might = r.might;
       put = subst (λ n. AddsPart holds old new (bytes_between c n r.count)) up.released r.put;
       broken = r.broken;

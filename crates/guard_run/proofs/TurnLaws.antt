@@ -1,18 +1,18 @@
 -- A turn of the gate, where the core stands.
-use Rattle.std.proofs.Common.{◌≡◌, inr, ℕ, ◌+◌, ◌<◌, ◌≤◌, true, false, List, take, refl, sym, ap, subst, ◌∙◌, arith}
+use Rattle.std.proofs.Common.{◌≡◌, inr, ℕ, ◌+◌, ◌<◌, ◌≤◌, true, false, List, take, refl, sym, ap, subst, ◌∙◌, arith, ◌⊎◌, inl, Bool, Option, Some, None, zero, suc, ◌-◌}
 use Rattle.std.specs.Prelude.{min, nat_lt, slice_index}
 use Rattle.after_edge.specs.Sink.{Adds, AddsPart}
 use Rattle.after_edge.proofs.SinkLaws.{Adds-same, AddsPart-same}
 use Rattle.gate_core.specs.declared.verdict.Verdict.{Verdict}
-use Rattle.gate_core.specs.Core.{CoreState, reached, IsSound}
+use Rattle.gate_core.specs.Core.{CoreState, Release, May, IsReleasable, reached, IsSound}
 use Rattle.gate_core.specs.Hub.{verdict_at}
-use Rattle.output_gate.specs.Gate.{GateState, count_below, with_failure, with_release, with_withheld}
+use Rattle.output_gate.specs.Gate.{GateState, count_below, least_from, with_failure, with_release, with_withheld}
 use Rattle.guard_run.specs.declared.parts.Parts.{Parts}
 use Rattle.guard_run.specs.Course.{Course, stop_of, plan_of}
 use Rattle.guard_run.specs.Gates.{Gates}
 use Rattle.guard_run.specs.Replicas.{Follows, taken_by, verdict_of}
 use Rattle.guard_run.specs.Runs.{IsAt, HasReleased, HasBroken, with_released}
-use Rattle.guard_run.proofs.ReleaseLaws.{after_release, put_is, release_sound, none_waits, none_withheld, after_withhold}
+use Rattle.guard_run.proofs.ReleaseLaws.{after_release, put_is, releasable, release_sound, none_waits, none_withheld, after_withhold, within_issued}
 
 -- the same run with another gate
 abbrev pub with_gate : Parts → GateState → Parts
@@ -81,12 +81,34 @@ module _ (c : Course) (core : CoreState) (parts : Parts) (at : IsAt c core parts
         min_right : (a b : ℕ) → nat_lt a b ≡ false → b ≤ min a b
         min_right a b less = let le : b ≤ a = grind (arith, less) in omega (arith, le)
 
+    exact_count : core.released + count_below verdict.approved parts.gate.steps ≡ core.released + count_below (slice_index core.approved 0) parts.gate.steps
+    exact_count = ap (λ n. core.released + count_below n parts.gate.steps) (sym approves)
+
+    event_is : (core.released + count_below verdict.approved parts.gate.steps ≡ core.released) ⊎ May (plan_of c) core (Release ((core.released + count_below verdict.approved parts.gate.steps) - core.released))
+    event_is = by (count_below verdict.approved parts.gate.steps) refl
+      where
+        by : (n : ℕ) → count_below verdict.approved parts.gate.steps ≡ n → (core.released + count_below verdict.approved parts.gate.steps ≡ core.released) ⊎ May (plan_of c) core (Release ((core.released + count_below verdict.approved parts.gate.steps) - core.released))
+        by zero none = inl (omega (arith, none))
+        by (suc n) some =
+            let all : count_below verdict.approved parts.gate.steps ≡ (core.released + count_below verdict.approved parts.gate.steps) - core.released = omega arith in
+            inr (subst (λ m. IsReleasable (plan_of c) core m) all (releasable c at.follows.course core parts.gate at.gates verdict.approved approves at.follows.sound at.sound (omega (arith, some))))
+
+    true_false : (b : Bool) → b ≡ true → b ≡ false → ⊥
+    true_false b is not = let both : ◌≡◌ true false = sym is ∙ not in cc
+
+    least_stop : (o : Option ℕ) → ((o ≡ None) ⊎ (o ≡ Some (stop_of c))) → least_from o (stop_of c) ≡ stop_of c
+    least_stop o (inl none) = ap (λ o. least_from o (stop_of c)) none
+    least_stop o (inr some) = ap (λ o. least_from o (stop_of c)) some ∙ (let e : min (stop_of c) (stop_of c) ≡ stop_of c = omega arith in e)
+
     module _ {S : Type 0} (holds : S → List ℕ → Type 0) (old new : S) where
       -- nothing is refused
       pub released_on : verdict.refused ≡ false → Adds holds old new (take (count_below verdict.approved parts.gate.steps) parts.gate.bytes)
-          → HasReleased c core (with_gate parts (with_release parts.gate (count_below verdict.approved parts.gate.steps))) holds old new
+          → HasReleased c core parts (with_gate parts (with_release parts.gate (count_below verdict.approved parts.gate.steps))) holds old new
       released_on passes added = record {
         count = core.released + count;
+        exact = exact_count;
+        event = event_is;
+        refused = λ refused. absurd (true_false verdict.refused (ap (λ (v : Verdict). v.refused) is ∙ refused) passes);
         more = omega arith;
         at = at_now (with_release parts.gate count) gates_now;
         put = Adds-same holds old new (put_is c at.follows.course core parts.gate at.gates verdict.approved approves) added;
@@ -96,9 +118,12 @@ module _ (c : Course) (core : CoreState) (parts : Parts) (at : IsAt c core parts
 
       -- the rest is withheld
       pub released_last : verdict.refused ≡ true → Adds holds old new (take (count_below verdict.approved parts.gate.steps) parts.gate.bytes)
-          → HasReleased c core (with_gate parts (with_withheld (with_release parts.gate (count_below verdict.approved parts.gate.steps)) verdict.approved)) holds old new
+          → HasReleased c core parts (with_gate parts (with_withheld (with_release parts.gate (count_below verdict.approved parts.gate.steps)) verdict.approved)) holds old new
       released_last refused added = record {
         count = core.released + count;
+        exact = exact_count;
+        event = event_is;
+        refused = λ _. ap Some (ap (least_from parts.gate.from) (refuses_at refused) ∙ least_stop parts.gate.from at.gates.withheld);
         more = omega arith;
         at = at_now (with_withheld (with_release parts.gate count) verdict.approved)
             (subst (λ step. Gates c (with_released core (core.released + count)) (with_withheld (with_release parts.gate count) step)) (sym (refuses_at refused))
@@ -113,6 +138,7 @@ module _ (c : Course) (core : CoreState) (parts : Parts) (at : IsAt c core parts
       broken_off gate made added = record {
         count = core.released + count;
         more = omega arith;
+        within = within_issued c at.follows.course core parts.gate at.gates verdict.approved approves;
         might = sound_now;
         put = AddsPart-same holds old new (put_is c at.follows.course core parts.gate at.gates verdict.approved approves) added;
         broken = record {

@@ -12,6 +12,10 @@ use Rattle.guard_run.specs.Course.{Course, run_of, stop_of}
 abbrev pub issued_by : Course → ℕ → List (ℕ × ℕ)
 issued_by c count = bytes_of (take count (items (run_of c)))
 
+-- those of them that the analysis lets out
+abbrev pub released_by : Course → ℕ → List ℕ
+released_by c count = map (λ (byte : ℕ × ℕ). byte.1) (before_step (stop_of c) (issued_by c count))
+
 -- those of them that are not withheld
 abbrev pub kept : Option ℕ → List (ℕ × ℕ) → List (ℕ × ℕ)
 kept None sent = sent

@@ -1,22 +1,23 @@
 -- A run under way, where the core stands, and what each turn makes of it.
-use Rattle.std.specs.Prelude.{◌≡◌, ◌⊎◌, ℕ, ◌+◌, ◌≤◌, ◌<◌, true, false, if◌then◌else◌, List, [], length, take, drop, map}
+use Rattle.std.specs.Prelude.{◌≡◌, ◌⊎◌, ℕ, ◌+◌, ◌-◌, ◌≤◌, ◌<◌, Bool, true, false, if◌then◌else◌, List, [], ◌∷◌, length, take, drop, map, Some, is_some, slice_index}
 use Rattle.after_edge.specs.Sink.{Adds, AddsPart}
 use Rattle.run_events.specs.declared.finding.Kind.{Kind}
 use Rattle.machine_model.specs.Image.{Image}
 use Rattle.machine_model.specs.State.{started}
-use Rattle.machine_model.specs.Items.{items}
+use Rattle.machine_model.specs.Items.{Item, items}
 use Rattle.analysis_model.specs.Made.{make_of}
-use Rattle.gate_core.specs.Core.{CoreState, Append, Close, after_event, opening, IsSound}
+use Rattle.gate_core.specs.Core.{CoreState, Append, Close, Release, May, after_event, opening, IsSound}
+use Rattle.output_gate.specs.Gate.{count_below}
 use Rattle.guard_run.specs.declared.job.RunJob.{RunJob}
 use Rattle.guard_run.specs.declared.parts.Parts.{Parts}
 use Rattle.guard_run.specs.declared.parts.Recorded.{Recorded}
 use Rattle.guard_run.specs.declared.parts.Recorded.TheVariants.{Appended, Closed, Waits, Over}
 use Rattle.guard_run.specs.declared.replica.Turn.{Turn}
 use Rattle.guard_run.specs.declared.replica.Turn.TheVariants as turn
-use Rattle.guard_run.specs.Course.{Course, run_of, log_of, output_of, plan_of, released_bytes}
-use Rattle.guard_run.specs.Replicas.{Follows, taken_by}
+use Rattle.guard_run.specs.Course.{Course, run_of, log_of, output_of, plan_of, stop_of, released_bytes}
+use Rattle.guard_run.specs.Replicas.{Follows, taken_by, verdict_of}
 use Rattle.guard_run.specs.Sources.{still_to_come}
-use Rattle.guard_run.specs.Gates.{Gates, issued_by}
+use Rattle.guard_run.specs.Gates.{Gates, issued_by, released_by}
 use Rattle.guard_run.specs.Closings.{end_in}
 
 -- what a job comes to whose analysis is of this kind
@@ -41,9 +42,14 @@ pub record IsUnderWay (parts : Parts) : Type 0 where
   pub core : CoreState
   pub at : IsAt of core parts
 
--- there is no place in the log, or none in the gate
+-- the next item carries a byte
+abbrev pub next_has_byte : List Item → Bool
+next_has_byte [] = false
+next_has_byte (i ∷ rest) = is_some i.byte
+
+-- there is no place in the log, or none in the gate for the byte of the next record
 abbrev pub HasNoRoom : Course → CoreState → Parts → Type 0
-HasNoRoom c core parts = (taken_by core + c.cap ≡ core.appended) ⊎ (length parts.gate.steps ≡ 4096)
+HasNoRoom c core parts = (taken_by core + c.cap ≡ core.appended) ⊎ ((length parts.gate.steps ≡ 4096) × (next_has_byte (still_to_come parts.source) ≡ true))
 
 -- a turn of the recorder
 pub record HasAppended (c : Course) (core : CoreState) (after : Parts) : Type 0 where
@@ -74,9 +80,13 @@ with_released core count = record core { released = count }
 abbrev pub bytes_between : Course → ℕ → ℕ → List ℕ
 bytes_between c from to = map (λ (byte : ℕ × ℕ). byte.1) (drop from (take to (output_of c)))
 
--- a turn of the gate: it put the next bytes. Where the replica has taken all, none waits any more.
-pub record HasReleased {S : Type 0} (c : Course) (core : CoreState) (after : Parts) (holds : S → List ℕ → Type 0) (old new : S) : Type 0 where
+-- A turn of the gate: it put exactly the waiting bytes whose steps the replica approves, as a release of the core where
+-- there were any, and from then on withholds what the replica refuses. Where the replica has taken all, none waits any more.
+pub record HasReleased {S : Type 0} (c : Course) (core : CoreState) (before after : Parts) (holds : S → List ℕ → Type 0) (old new : S) : Type 0 where
   pub count : ℕ
+  pub exact : count ≡ core.released + count_below (slice_index core.approved 0) before.gate.steps
+  pub event : (count ≡ core.released) ⊎ May (plan_of c) core (Release (count - core.released))
+  pub refused : (verdict_of c (taken_by core)).refused ≡ true → after.gate.from ≡ Some (stop_of c)
   pub more : core.released ≤ count
   pub at : IsAt c (with_released core count) after
   pub put : Adds holds old new (bytes_between c core.released count)
@@ -89,10 +99,11 @@ pub record IsBroken (c : Course) (core : CoreState) (parts : Parts) : Type 0 whe
   pub issued : parts.gate.issued ≡ length (issued_by c core.appended)
   pub failed : core.failed ≡ true
 
--- a put of the next bytes failed, all of which might have been released
+-- a put of the next bytes failed, all of which were issued and might have been released
 pub record HasBroken {S : Type 0} (c : Course) (core : CoreState) (after : Parts) (holds : S → List ℕ → Type 0) (old new : S) : Type 0 where
   pub count : ℕ
   pub more : core.released ≤ count
+  pub within : count ≤ length (issued_by c core.appended)
   pub might : IsSound (plan_of c) (with_released core count)
   pub put : AddsPart holds old new (bytes_between c core.released count)
   pub broken : IsBroken c (record core { failed = true }) after
@@ -120,6 +131,7 @@ pub record HasBrokenRound {S : Type 0} (c : Course) (core : CoreState) (after : 
   pub next : CoreState
   pub count : ℕ
   pub more : core.released ≤ count
+  pub within : count ≤ length (issued_by c next.appended)
   pub might : IsSound (plan_of c) (with_released next count)
   pub put : AddsPart holds old new (bytes_between c core.released count)
   pub broken : IsBroken c (record next { failed = true }) after
@@ -155,14 +167,14 @@ pub record IsStopped (c : Course) (parts : Parts) : Type 0 where
   pub closed : core.closed ≡ true
   pub taken : taken_by core ≡ core.appended
 
--- and what was put by then
+-- and what was put by then: all that the analysis lets out, or a front of what it lets out of the records in the log
 pub record HasEnded {S : Type 0} (c : Course) (parts : Parts) (holds : S → List ℕ → Type 0) (old new : S) : Type 0 where
   pub ended : IsEnded c parts
   pub put : Adds holds old new (released_bytes c)
 
 pub record HasStopped {S : Type 0} (c : Course) (parts : Parts) (holds : S → List ℕ → Type 0) (old new : S) : Type 0 where
   pub stopped : IsStopped c parts
-  pub put : AddsPart holds old new (released_bytes c)
+  pub put : AddsPart holds old new (released_by c parts.hub.appended)
 
 -- some course is that of the run, before its first turn, between two rounds, or after a failed put
 pub record IsOpenedRun (parts : Parts) : Type 0 where

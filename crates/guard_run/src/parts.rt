@@ -26,7 +26,7 @@ use std::alloc::Global;
 
 /// What a turn of the recorder came to.
 #[derive(Clone, Copy, Debug, PartialEq, Eq)]
-pub enum Recorded {
+pub(crate) enum Recorded {
     /// A record was appended.
     Appended,
     /// The log was closed, behind its last record.
@@ -68,9 +68,9 @@ impl Parts {
         })
     }
 
-    /// A turn of the recorder: its next record is appended where the log has room, and the gate for its byte; else it
-    /// waits. Behind the last record the log is closed.
-    pub fn append_next(&mut self) -> Recorded
+    // A turn of the recorder: its next record is appended where the log has room, and the gate for its byte; else it
+    // waits. Behind the last record the log is closed.
+    pub(crate) fn append_next(&mut self) -> Recorded
         requires { IsUnderWay self.old }
         ensures { (c : Course) (core : CoreState) → IsAt c core self.old → Records c core result self.old self.new }
     {
@@ -97,10 +97,10 @@ impl Parts {
         Recorded::Appended
     }
 
-    /// A turn of the gate: it releases below what the replica approves, and withholds from there on where it refuses.
-    pub fn release<O: Sink>(&mut self, out: &mut O) -> Result<(), SinkFault>
+    // A turn of the gate: it releases below what the replica approves, and withholds from there on where it refuses.
+    pub(crate) fn release<O: Sink>(&mut self, out: &mut O) -> Result<(), SinkFault>
         requires { IsUnderWay self.old }
-        ensures ok { OnOk result ((c : Course) (core : CoreState) → IsAt c core self.old → HasReleased c core self.new O.holds out.old out.new) }
+        ensures ok { OnOk result ((c : Course) (core : CoreState) → IsAt c core self.old → HasReleased c core self.old self.new O.holds out.old out.new) }
         ensures err { OnErr result ((c : Course) (core : CoreState) → IsAt c core self.old → HasBroken c core self.new O.holds out.old out.new) }
         ensures cause { OnErr result (Rose (O.faults out.old) (O.faults out.new)) }
         ensures later { O.faults out.old ≤ O.faults out.new }

@@ -103,8 +103,8 @@ impl Replica {
         }
     }
 
-    /// The analysis.
-    pub fn analysis(&self) -> &AnyAnalysis
+    // The analysis.
+    pub(crate) fn analysis(&self) -> &AnyAnalysis
         ensures { result.now ≡ self.now.analysis }
     {
         &self.analysis
