@@ -1,18 +1,17 @@
 -- What a job writes is what its run writes.
 use Rattle.std.proofs.Common.{◌≡◌, ℕ, List, [], ◌∷◌, ◌++◌, ◌≤◌, Option, Some, refl, sym, ◌∙◌, ap, subst, append-nil, arith}
 use Rattle.std.specs.Option.{option_map}
-use Rattle.list_laws.proofs.PrefixLaws.{whole_IsPrefix}
 use Rattle.run_events.specs.declared.event.Event.{Event}
 use Rattle.run_events.specs.declared.finding.Kind.TheVariants.{Cover}
 use Rattle.analysis_model.specs.Made.{kind_made_of, code_made_of}
-use Rattle.analysis_model.specs.Report.{Facts, head_text, part_text, run_facts, text}
+use Rattle.analysis_model.specs.Report.{Facts, head_text, part_text, run_facts, report, text}
 use Rattle.analysis_set.specs.declared.analysis.AnyAnalysis.{AnyAnalysis}
 use Rattle.analysis_set.specs.declared.head.RunFacts.{RunFacts}
 use Rattle.analysis_set.specs.Analysis.{HasSeen, made_of}
 use Rattle.analysis_set.specs.Head.{facts_of}
 use Rattle.guard_run.specs.declared.closing.Closing.{Closing}
-use Rattle.guard_run.specs.Closings.{ClosesFront, ClosesWhole, facts_at}
-use Rattle.guard_run.specs.Course.{Course, IsCourse, run_of, log_of, released_bytes}
+use Rattle.guard_run.specs.Closings.{ClosesWhole, facts_at}
+use Rattle.guard_run.specs.Course.{Course, IsCourse, run_of, released_bytes}
 use Rattle.guard_run.proofs.ClosingLaws.{whole_facts}
 use Rattle.after_cli.specs.Job.{course_of, cover_job, report_text}
 use Rattle.after_cli.specs.JobEnds.{IsWholeRun}
@@ -32,12 +31,15 @@ report_same made now h told facts facts_are made_is = λ i. head_text (facts_are
 pub has_course : (file : List ℕ) (ram_kib limit : ℕ) → limit ≤ 1000000000 → IsCourse (course_of (cover_job file ram_kib limit))
 has_course file ram_kib limit few = record { first = refl; limit = few; cap = omega arith }
 
--- the closing of a run that went to its end is one of the whole job, and of a front of it
+-- the closing of a run that went to its end is one of the whole job
 pub whole_run : (file : List ℕ) (ram_kib limit : ℕ) → limit ≤ 1000000000 → (closing : Closing) → ClosesWhole (course_of (cover_job file ram_kib limit)) closing → IsWholeRun (cover_job file ram_kib limit) closing
 whole_run file ram_kib limit few closing whole = record { closes = whole; facts_are = whole_facts (course_of (cover_job file ram_kib limit)) (has_course file ram_kib limit few) closing whole }
 
-pub whole_front : (c : Course) (closing : Closing) → ClosesWhole c closing → ClosesFront c closing
-whole_front c closing whole = record { items = log_of c; front = whole_IsPrefix (log_of c); closes = whole.closes }
+-- the report of a job, from its course
+pub report-cover_job : (file : List ℕ) (ram_kib limit : ℕ) → report_text (course_of (cover_job file ram_kib limit)) ≡ report (cover_job file ram_kib limit)
+report-cover_job file ram_kib limit =
+    let c = course_of (cover_job file ram_kib limit) in
+    sym (ap (λ l. head_text (run_facts (code_made_of c.made) (run_of c) (kind_made_of c.made ∷ [])) ++ l) (append-nil (part_text (code_made_of c.made) (run_of c).events Cover)))
 
 -- the report of a closing, in the words of its course
 some_same : (a b : Facts) → ◌≡◌ {A = Option Facts} (Some a) (Some b) → a ≡ b

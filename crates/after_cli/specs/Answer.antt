@@ -29,13 +29,13 @@ pub record IsDone {S : Type 0} (content : Option Contents) (words : List (List �
   pub closing_is : IsSomeAnd closing (IsWholeRun (default_job file))
 
 -- 6: a put of the output failed, and some front of the job's text was added; the closing holds a front of the job's log,
--- which was taken, each record once and in order
+-- which was taken, each record once and in order, and the whole log where the report had begun
 pub record OutputHasFailed {S : Type 0} (content : Option Contents) (words : List (List ℕ)) (holds : S → List ℕ → Type 0) (faults : S → ℕ) (old new : S) (closing : Option Closing) : Type 0 where
   pub file : List ℕ
   pub run : IsRunOf content words file
   pub written : AddsPart holds old new (text (default_job file))
   pub rose : Rose (faults old) (faults new)
-  pub closing_is : IsSomeAnd closing (IsCutRun (default_job file))
+  pub closing_is : IsSomeAnd closing (IsCutRun holds old new (default_job file))
 
 -- 5: the files of a run failed, or they tell that one is absent
 pub record FilesHaveFailed (content : Option Contents) (words : List (List ℕ)) (before now : ℕ) : Type 0 where

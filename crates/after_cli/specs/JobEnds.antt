@@ -1,19 +1,21 @@
 -- What a run of a job leaves, and what each end of it means.
-use Rattle.std.specs.Prelude.{◌≡◌, ℕ, List, Some, option_map}
+use Rattle.std.specs.Prelude.{◌≡◌, ◌⊎◌, ℕ, List, ◌++◌, map, Some, option_map}
+use Rattle.list_laws.specs.Prefix.{IsPrefix}
 use Rattle.after_edge.specs.Fault.{Rose}
 use Rattle.after_edge.specs.Sink.{Adds, AddsPart}
-use Rattle.analysis_model.specs.Job.{Job, status}
-use Rattle.analysis_model.specs.Report.{facts, text}
+use Rattle.analysis_model.specs.Job.{Job, released, status}
+use Rattle.analysis_model.specs.Report.{facts, report, text}
 use Rattle.analysis_set.specs.Head.{facts_of}
 use Rattle.guard_run.specs.declared.closing.Closing.{Closing}
 use Rattle.guard_run.specs.Closings.{ClosesFront, ClosesWhole, facts_at}
 use Rattle.guard_run.specs.Course.{Course, IsCourse}
+use Rattle.guard_run.specs.Gates.{released_by}
 use Rattle.after_cli.specs.declared.running.JobEnd.{JobEnd}
 use Rattle.after_cli.specs.declared.running.JobEnd.TheVariants.{Done, OutputFailed, NoMemory}
 use Rattle.after_cli.specs.Job.{course_of}
 
 -- some course is that of a closing whose run went to its end
-pub record IsWhole (closing : Closing) : Type 0 where
+pub record HasCourse (closing : Closing) : Type 0 where
   pub of : Course
   pub course : IsCourse of
   pub whole : ClosesWhole of closing
@@ -24,9 +26,22 @@ pub record IsWholeRun (job : Job) (closing : Closing) : Type 0 where
   pub closes : ClosesWhole (course_of job) closing
   pub facts_are : option_map facts_of (facts_at closing) ≡ Some (facts job)
 
--- a run with a sink fault: the one list is a front of the log of the job
-abbrev pub IsCutRun : Job → Closing → Type 0
-IsCutRun job closing = ClosesFront (course_of job) closing
+-- A put of the guest's output failed. The one list is a front of the log of the job, and a front was written of the bytes
+-- that are let out of that list's records.
+pub record IsCutInOutput {S : Type 0} (holds : S → List ℕ → Type 0) (old new : S) (job : Job) (closing : Closing) : Type 0 where
+  pub put : AddsPart holds old new (released_by (course_of job) closing.hub.appended)
+  pub closes : ClosesFront (course_of job) closing
+
+-- A put of the report failed. The run was whole, and all released output was written, and a front of the report.
+pub record IsCutInReport {S : Type 0} (holds : S → List ℕ → Type 0) (old new : S) (job : Job) (closing : Closing) : Type 0 where
+  pub front : List ℕ
+  pub is_front : IsPrefix front (report job)
+  pub put : Adds holds old new (map (λ byte. byte.1) (released job) ++ front)
+  pub whole : IsWholeRun job closing
+
+-- a run with a sink fault
+abbrev pub IsCutRun : {S : Type 0} → (S → List ℕ → Type 0) → S → S → Job → Closing → Type 0
+IsCutRun holds old new job closing = IsCutInOutput holds old new job closing ⊎ IsCutInReport holds old new job closing
 
 -- the whole text of the job was written, and the status is the job's
 pub record IsDoneJob {S : Type 0} (holds : S → List ℕ → Type 0) (old new : S) (job : Job) (number : ℕ) (closing : Closing) : Type 0 where
@@ -38,7 +53,7 @@ pub record IsDoneJob {S : Type 0} (holds : S → List ℕ → Type 0) (old new :
 pub record HasFailedOutput {S : Type 0} (holds : S → List ℕ → Type 0) (faults : S → ℕ) (old new : S) (job : Job) (closing : Closing) : Type 0 where
   pub written : AddsPart holds old new (text job)
   pub rose : Rose (faults old) (faults new)
-  pub closing_is : IsCutRun job closing
+  pub closing_is : IsCutRun holds old new job closing
 
 -- want of memory comes before anything is written, and has no cause
 abbrev pub JobEnds : {S : Type 0} → (S → List ℕ → Type 0) → (S → ℕ) → S → S → Job → JobEnd → Type 0

@@ -13,7 +13,7 @@ ghost use Rattle.guard_run.specs.Closings.{ClosesWhole};
 ghost use Rattle.guard_run.specs.Course.{Course, IsCourse};
 ghost use Rattle.guard_run.specs.Runs.{IsOpened};
 ghost use Rattle.after_cli.specs.Job.{course_of, cover_job, report_text, status_at};
-ghost use Rattle.after_cli.specs.JobEnds.{IsWhole, JobEnds};
+ghost use Rattle.after_cli.specs.JobEnds.{HasCourse, JobEnds};
 
 use after_edge::{Failed, Sink};
 use analysis_set::{AnyAnalysis, RunFacts, report_head, report_part};
@@ -85,7 +85,7 @@ fn status_number(end: EndCause, refused: bool) -> u8
 
 // Writes the report of a run that went to its end. It answers the status.
 fn tell<O: Sink>(closing: &Closing, out: &mut O) -> Result<u8, Failed>
-    requires { IsWhole closing.now }
+    requires { HasCourse closing.now }
     ensures status { IfOk result (λ number. (c : Course) → IsCourse c → ClosesWhole c closing.now → number ≡ status_at c) }
     ensures ok { OnOk result ((c : Course) → IsCourse c → ClosesWhole c closing.now → Adds O.holds out.old out.new (report_text c)) }
     ensures err { OnErr result ((c : Course) → IsCourse c → ClosesWhole c closing.now → AddsPart O.holds out.old out.new (report_text c)) }

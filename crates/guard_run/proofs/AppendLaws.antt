@@ -122,7 +122,7 @@ module _ (c : Course) (core : CoreState) (parts : Parts) (at : IsAt c core parts
     same_run back put = record { follows = at.follows; rest = at.rest ∙ given ∙ sym put; gates = at.gates; end = at.end; sound = at.sound }
 
     pub waits_for_gate : (back : Source) → still_to_come back ≡ item_of entry ∷ still_to_come source → (is_some entry.byte && is_full parts.gate) ≡ true → HasWaited c core parts (with_source parts back)
-    waits_for_gate back put crowded = 
+    waits_for_gate back put crowded =
         let both = full_is (is_some entry.byte) (length parts.gate.steps) crowded in
         record { crowded = inr (both.0, ap next_has_byte given ∙ both.1); at = same_run back put }
       where

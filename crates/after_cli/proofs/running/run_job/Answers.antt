@@ -1,19 +1,29 @@
-use Rattle.std.proofs.Common.{arith}
-use Rattle.after_edge.proofs.SinkLaws.{Adds-same, Adds-then, AddsPart-more, AddsPart-same, AddsPart-then}
+use Rattle.std.proofs.Common.{inl, inr, ap, sym, subst, arith}
+use Rattle.after_edge.proofs.SinkLaws.{Adds-same, Adds-then, AddsPart-front, AddsPart-more, AddsPart-same, AddsPart-then}
+use Rattle.list_laws.specs.Prefix.{IsPrefix}
+use Rattle.gate_core.specs.Hub.{HubState}
+use Rattle.guard_run.specs.Gates.{released_by}
+use Rattle.guard_run.proofs.EndLaws.{released_by_IsPrefix}
 use Rattle.guard_run.specs.Course.{released_bytes}
 use Rattle.after_cli.specs.Job.{course_of, cover_job, report_text}
-use Rattle.after_cli.proofs.JobLaws.{text-cover_job, has_course, whole_run, whole_front}
+use Rattle.after_cli.proofs.JobLaws.{text-cover_job, report-cover_job, has_course, whole_run}
 use Rattle.after_cli.proofs.running.run_job.Goals as goal
 
 pub returns-in-Err-ran-clause-end : goal.returns-in-Err-ran-clause-end
 returns-in-Err-ran-clause-end g c =
     let of = course_of (cover_job c.args.file.items c.args.ram_kib c.args.limit) in
+    let course = has_course c.args.file.items c.args.ram_kib c.args.limit c.requires.steps in
     let stopped = c.in-Err-ran.ensures.err of c.in-Ok.ensures in
+    let count = c.run_turns-ran.new.parts.hub.appended in
     record {
       written = AddsPart-same g.O.Sink.holds c.args.out.now c.run_turns-ran.new.out (text-cover_job c.args.file.items c.args.ram_kib c.args.limit)
-          (AddsPart-more g.O.Sink.holds c.args.out.now c.run_turns-ran.new.out (released_bytes of) (report_text of) stopped.put);
+          (AddsPart-more g.O.Sink.holds c.args.out.now c.run_turns-ran.new.out (released_bytes of) (report_text of)
+          (AddsPart-front g.O.Sink.holds c.args.out.now c.run_turns-ran.new.out (released_by of count) (released_bytes of) (released_by_IsPrefix of course count) stopped.put));
       rose = c.in-Err-ran.ensures.cause;
-      closing_is = c.finish-closing.ensures.front of stopped.stopped;
+      closing_is = inl (record {
+        put = AddsPart-same g.O.Sink.holds c.args.out.now c.run_turns-ran.new.out (ap (λ (hub : HubState). released_by of hub.appended) (sym c.finish-closing.ensures.hub)) stopped.put;
+        closes = c.finish-closing.ensures.front of stopped.stopped;
+      });
     }
 
 pub tell-requires : goal.tell-requires
@@ -40,9 +50,15 @@ returns-in-Err-tell-clause-end g c =
     let of = course_of (cover_job c.args.file.items c.args.ram_kib c.args.limit) in
     let course = has_course c.args.file.items c.args.ram_kib c.args.limit c.requires.steps in
     let closed = c.finish-closing.ensures.whole (course_of (cover_job c.args.file.items c.args.ram_kib c.args.limit)) (c.in-Ok-ran.ensures.ok (course_of (cover_job c.args.file.items c.args.ram_kib c.args.limit)) c.in-Ok.ensures).ended in
+    let told = c.in-Err-tell.ensures.err of course closed in
     record {
       written = AddsPart-same g.O.Sink.holds c.args.out.now c.tell.new.out (text-cover_job c.args.file.items c.args.ram_kib c.args.limit)
           (AddsPart-then g.O.Sink.holds c.args.out.now c.run_turns-ran.new.out c.tell.new.out (released_bytes of) (report_text of) (c.in-Ok-ran.ensures.ok of c.in-Ok.ensures).put (c.in-Err-tell.ensures.err of course closed));
       rose = omega (arith, c.in-Err-tell.ensures.cause, c.run_turns-ran.ensures.later);
-      closing_is = whole_front of c.finish-closing.result closed;
+      closing_is = inr (record {
+        front = told.front;
+        is_front = subst (IsPrefix told.front) (report-cover_job c.args.file.items c.args.ram_kib c.args.limit) told.is_front;
+        put = Adds-then g.O.Sink.holds c.args.out.now c.run_turns-ran.new.out c.tell.new.out (released_bytes of) told.front (c.in-Ok-ran.ensures.ok of c.in-Ok.ensures).put told.added;
+        whole = whole_run c.args.file.items c.args.ram_kib c.args.limit c.requires.steps c.finish-closing.result closed;
+      });
     }
