@@ -1,5 +1,6 @@
 -- What a run leaves when it is over.
-use Rattle.std.proofs.Common.{◌≡◌, ℕ, true, [], ◌∷◌, length, take, Option, Some, sym, ap, subst, ◌∙◌, arith}
+use Rattle.guard_run.proofs.EndLaws.{released_short}
+use Rattle.std.proofs.Common.{◌≡◌, ℕ, true, [], ◌∷◌, length, take, Option, Some, sym, ap, subst, ◌∙◌, arith, ◌≤◌}
 use Rattle.std.specs.Option.{option_map}
 use Rattle.std.specs.List.{flat_map}
 use Rattle.std.proofs.lemmas.List.{length-take-le, length-map, take_all, reverse-append}
@@ -21,7 +22,7 @@ use Rattle.guard_run.specs.declared.parts.Parts.{Parts}
 use Rattle.guard_run.specs.declared.replica.Replica.{Replica}
 use Rattle.guard_run.specs.Closings.{Closes, ClosesFront, ClosesWhole, end_back, end_in, facts_at, facts_with}
 use Rattle.guard_run.specs.Course.{Course, IsCourse, run_of, log_of, output_of}
-use Rattle.guard_run.specs.Gates.{issued_by}
+use Rattle.guard_run.specs.Gates.{issued_by, released_by}
 use Rattle.guard_run.specs.Replicas.{Follows, taken_by}
 use Rattle.guard_run.specs.Runs.{IsEnded, IsStopped}
 use Rattle.guard_run.proofs.CourseLaws.{numbered, reach_whole}
@@ -76,6 +77,9 @@ stopped_closes c parts s = record {
   items = take s.core.appended (log_of c);
   front = take_IsPrefix s.core.appended (log_of c);
   closes = closes c s.core parts.hub parts.replica s.broken.follows s.closed s.taken parts.gate parts.end s.broken.end s.broken.issued;
+  released =
+      let long : length (take s.core.appended (log_of c)) ≡ s.core.appended = length-take-le s.core.appended (log_of c) s.broken.follows.sound.appended in
+      subst (λ n. parts.gate.released ≤ length (released_by c n)) (sym long) (omega (arith, s.broken.released, released_short c s.core s.broken.follows.course s.broken.follows.sound s.broken.there));
 }
 
 -- facts by their parts

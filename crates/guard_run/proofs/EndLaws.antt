@@ -17,7 +17,7 @@ use Rattle.guard_run.specs.Course.{Course, log_of, output_of, stop_of, plan_of, 
 use Rattle.guard_run.specs.Gates.{issued_by, kept, still_waiting, released_by}
 use Rattle.guard_run.specs.Replicas.{Follows, after_turn}
 use Rattle.guard_run.specs.Runs.{IsIdle, IsBroken, IsOnItsWay, IsReadOut, HasEnded, HasStopped, HasBrokenRound, with_released, bytes_between}
-use Rattle.guard_run.proofs.ListLaws.{bytes_in, AllBelow, before-all, front-take}
+use Rattle.guard_run.proofs.ListLaws.{bytes_in, AllBelow, before-all, front-take, before-long}
 use Rattle.guard_run.proofs.CourseLaws.{is_plan}
 use Rattle.guard_run.proofs.ItemLaws.{issued_all, issued_IsPrefix}
 use Rattle.guard_run.proofs.ReleaseLaws.{kept_IsPrefix, released_below}
@@ -93,6 +93,14 @@ might_front c core count is sound within =
           ∙ sym (filter-append (λ (byte : ℕ × ℕ). nat_lt byte.0 (stop_of c)) (take count sent) (drop count sent)) ∙ ap (before_step (stop_of c)) (take-append-drop count sent);
     })
 
+-- and so they are no more than those
+pub released_short : (c : Course) (core : CoreState) → IsCourse c → IsSound (plan_of c) core → core.released ≤ length (issued_by c core.appended) → core.released ≤ length (released_by c core.appended)
+released_short c core is sound there =
+    let sent = issued_by c core.appended in
+    let same : take core.released sent ≡ take core.released (output_of c) = front-take core.released sent (output_of c) (issued_IsPrefix c is core.appended) there in
+    let below : AllBelow (stop_of c) (take core.released sent) = subst (AllBelow (stop_of c)) (sym same) (released_below c core sound) in
+    omega (arith, before-long (stop_of c) core.released sent there below, length-map (before_step (stop_of c) sent) (λ (byte : ℕ × ℕ). byte.1))
+
 -- which is a front of all that it lets out
 pub released_by_IsPrefix : (c : Course) (is : IsCourse c) (count : ℕ) → IsPrefix (released_by c count) (released_bytes c)
 released_by_IsPrefix c is count =
@@ -153,10 +161,12 @@ closes_broken c core parts b opened =
       };
       end = b.end;
       issued = b.issued;
+      released = b.released;
+      there = b.there;
       failed = b.failed;
     }
 
 -- one record more was taken of a closed log
 pub takes_broken : (c : Course) (core : CoreState) (parts : Parts) → IsBroken c core parts → (hub : HubState) (replica : Replica) → Follows c (after_turn c core) hub replica
     → IsBroken c (after_turn c core) (record { source = parts.source; hub = hub; replica = replica; gate = parts.gate; end = parts.end })
-takes_broken c core parts b hub replica follows = record { follows = follows; end = b.end; issued = b.issued; failed = b.failed }
+takes_broken c core parts b hub replica follows = record { follows = follows; end = b.end; issued = b.issued; released = b.released; there = b.there; failed = b.failed }

@@ -145,6 +145,8 @@ module _ (c : Course) (core : CoreState) (parts : Parts) (at : IsAt c core parts
           follows = record { course = at.follows.course; stands = at.follows.stands; approved = at.follows.approved; sound = failed_sound; reader = at.follows.reader; replays = at.follows.replays; seen = at.follows.seen; made = at.follows.made; size = at.follows.size };
           end = at.end;
           issued = ap (λ (g : GateState). g.issued) made ∙ at.gates.issued;
+          released = ap (λ (g : GateState). g.released) made ∙ at.gates.released;
+          there = omega (arith, within_issued c at.follows.course core parts.gate at.gates verdict.approved approves);
           failed = refl;
         };
       }

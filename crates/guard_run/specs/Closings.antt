@@ -1,5 +1,5 @@
 -- What stands when a run is over.
-use Rattle.std.specs.Prelude.{◌≡◌, true, List, [], ◌∷◌, length, take, reverse, Option, Some, None, option_map}
+use Rattle.std.specs.Prelude.{◌≡◌, true, List, [], ◌∷◌, length, take, reverse, Option, Some, None, option_map, ◌≤◌}
 use Rattle.list_laws.specs.Prefix.{IsPrefix}
 use Rattle.circular_buffer.specs.Buffer.{keep_last}
 use Rattle.run_events.specs.declared.record.Record.{Record}
@@ -10,7 +10,7 @@ use Rattle.analysis_set.specs.Analysis.{HasSeen, made_of}
 use Rattle.guard_run.specs.declared.closing.Ending.{Ending}
 use Rattle.guard_run.specs.declared.closing.Closing.{Closing}
 use Rattle.guard_run.specs.Course.{Course, run_of, log_of, released_bytes}
-use Rattle.guard_run.specs.Gates.{issued_by}
+use Rattle.guard_run.specs.Gates.{issued_by, released_by}
 
 -- the ending that a record tells
 abbrev pub end_at : Record → Option Ending
@@ -55,8 +55,10 @@ pub record ClosesWhole (c : Course) (closing : Closing) : Type 0 where
   pub all : HasSeen closing.replica.analysis (run_of c).events
   pub released : closing.gate.released ≡ length (released_bytes c)
 
--- the closing of a run that a failed put has ended: its list is a front of the log
+-- The closing of a run that a failed put has ended: its list is a front of the log, and by puts that did not fail the gate
+-- has released no more than is let out of this list's records.
 pub record ClosesFront (c : Course) (closing : Closing) : Type 0 where
   pub items : List Record
   pub front : IsPrefix items (log_of c)
   pub closes : Closes c items closing
+  pub released : closing.gate.released ≤ length (released_by c (length items))

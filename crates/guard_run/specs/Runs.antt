@@ -97,6 +97,8 @@ pub record IsBroken (c : Course) (core : CoreState) (parts : Parts) : Type 0 whe
   pub follows : Follows c core parts.hub parts.replica
   pub end : parts.end ≡ end_in (take core.appended (log_of c))
   pub issued : parts.gate.issued ≡ length (issued_by c core.appended)
+  pub released : parts.gate.released ≡ core.released
+  pub there : core.released ≤ length (issued_by c core.appended)
   pub failed : core.failed ≡ true
 
 -- a put of the next bytes failed, all of which were issued and might have been released
