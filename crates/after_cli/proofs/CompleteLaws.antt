@@ -5,11 +5,10 @@ use Rattle.after_edge.specs.Files.{Contents, IsAbsent}
 use Rattle.after_edge.specs.Sink.{Adds}
 use Rattle.analysis_model.specs.Job.{status}
 use Rattle.analysis_model.specs.Report.{text}
-use Rattle.after_cli.specs.declared.inputs.TheConstants.{IMAGE_MAX, SCRIPT_MAX}
+use Rattle.after_cli.specs.Inputs.{image_max, script_max, IsRead, IsTooLong, AreNotBuilt, HaveFailed, is_elf}
 use Rattle.after_cli.specs.declared.top.Answer.{Answer}
 use Rattle.after_cli.specs.declared.top.Answer.TheVariants.{Done, FilesFailed, OutputFailed, NoMemory, NotBuilt}
 use Rattle.after_cli.specs.Words.{NamesRun}
-use Rattle.after_cli.specs.Inputs.{IsRead, IsTooLong, AreNotBuilt, HaveFailed, is_elf}
 use Rattle.after_cli.specs.Job.{default_job}
 use Rattle.after_cli.specs.Answer.{IsToldRun, IsWhole}
 use Rattle.after_cli.specs.Means.{Means, number_of}
@@ -58,10 +57,10 @@ module _ (content : Option Contents) (words : List (List ℕ)) (file : List ℕ)
   not_failed image script before now named stays (inr (inr (bytes, read, absent))) = not_absent script [] (script_here image script named) absent
 
   not_foreign : (image script : List ℕ) → NamesRun words image script → AreNotBuilt content image script → ⊥
-  not_foreign image script named (inl long) = not_too_long image file IMAGE_MAX (image_here image script named) run.within long
-  not_foreign image script named (inr (inl (bytes, read, long))) = not_too_long script [] SCRIPT_MAX (script_here image script named) (omega arith) long
+  not_foreign image script named (inl long) = not_too_long image file image_max (image_here image script named) run.within long
+  not_foreign image script named (inr (inl (bytes, read, long))) = not_too_long script [] script_max (script_here image script named) (omega arith) long
   not_foreign image script named (inr (inr (bytes, read, empty, header))) =
-      let same = same_file image script bytes IMAGE_MAX named read in
+      let same = same_file image script bytes image_max named read in
       let both : ◌≡◌ true false = sym header ∙ ap is_elf same ∙ run.headless in
       absurd (cc)
 
@@ -69,7 +68,7 @@ module _ (content : Option Contents) (words : List (List ℕ)) (file : List ℕ)
   pub complete : {S : Type 0} (before now : ℕ) (holds : S → List ℕ → Type 0) (faults : S → ℕ) (old new : S) (a : Answer) → Means content words before now holds faults old new a
       → (Rose before now → ⊥) → (Rose (faults old) (faults new) → ⊥) → IsWhole holds old new (number_of a) file
   complete before now holds faults old new (Done number closing) m files_stay out_stays =
-      let same : m.file ≡ file = same_file m.run.image m.run.script m.file IMAGE_MAX m.run.named m.run.inputs.image_read in
+      let same : m.file ≡ file = same_file m.run.image m.run.script m.file image_max m.run.named m.run.inputs.image_read in
       inr (subst (λ (f : List ℕ). Adds holds old new (text (default_job f))) same m.written, m.status_is ∙ ap (λ (f : List ℕ). status (default_job f)) same)
   complete before now holds faults old new FilesFailed m files_stay out_stays = absurd (not_failed m.0.image m.0.script before now m.0.named files_stay m.0.failed)
   complete before now holds faults old new (OutputFailed closing) m files_stay out_stays = absurd (out_stays m.rose)

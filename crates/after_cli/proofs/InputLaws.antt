@@ -5,12 +5,11 @@ use Rattle.after_edge.specs.declared.reading.FileFault.TheVariants.{Absent, Fail
 use Rattle.after_edge.specs.Files.{Contents, IfTold}
 use Rattle.after_edge.specs.Reading.{HasFileCause}
 use Rattle.after_edge.proofs.FaultLaws.{Rose-before}
-use Rattle.after_cli.specs.declared.inputs.TheConstants.{IMAGE_MAX, SCRIPT_MAX}
-use Rattle.after_cli.specs.Inputs.{IsRead, HasRefusalCause, refusal_of}
+use Rattle.after_cli.specs.Inputs.{image_max, script_max, IsRead, HasRefusalCause, refusal_of}
 
 -- the script's fault, after the image was read
-pub script_refused : (V : Type 0) (content : Option Contents) (image script file : List ℕ) (before between now : ℕ) (fault : FileFault) → IsRead content image IMAGE_MAX file → before ≤ between
-    → HasFileCause {V = V} content script SCRIPT_MAX between now (Err fault) → HasRefusalCause content image script before now (refusal_of fault)
+pub script_refused : (V : Type 0) (content : Option Contents) (image script file : List ℕ) (before between now : ℕ) (fault : FileFault) → IsRead content image image_max file → before ≤ between
+    → HasFileCause {V = V} content script script_max between now (Err fault) → HasRefusalCause content image script before now (refusal_of fault)
 script_refused V content image script file before between now Absent read later (inl (absent, same)) = inr (inr (file, read, absent))
 script_refused V content image script file before between now Absent read later (inr (untold, rose)) = inl (Rose-before before between now later rose)
 script_refused V content image script file before between now Failed read later cause = inl (Rose-before before between now later cause)
@@ -22,14 +21,14 @@ nothing [] le = refl
 nothing (x ∷ bytes) le = absurd (omega arith)
 
 -- a file of at most no bytes is empty
-pub read_empty : (content : Option Contents) (name bytes : List ℕ) → IfTold content (λ files. files name ≡ Some bytes) → length bytes ≤ 0 → IsRead content name SCRIPT_MAX []
+pub read_empty : (content : Option Contents) (name bytes : List ℕ) → IfTold content (λ files. files name ≡ Some bytes) → length bytes ≤ 0 → IsRead content name script_max []
 read_empty content name bytes told le = record { told = λ files is. told files is ∙ ap Some (nothing bytes le); within = omega arith }
 
 -- the same where the files between the two reads tell what they told before
-pub script_refused_later : (V : Type 0) (content mid : Option Contents) (image script file : List ℕ) (before between now : ℕ) (fault : FileFault) → mid ≡ content → IsRead content image IMAGE_MAX file → before ≤ between
-    → HasFileCause {V = V} mid script SCRIPT_MAX between now (Err fault) → HasRefusalCause content image script before now (refusal_of fault)
+pub script_refused_later : (V : Type 0) (content mid : Option Contents) (image script file : List ℕ) (before between now : ℕ) (fault : FileFault) → mid ≡ content → IsRead content image image_max file → before ≤ between
+    → HasFileCause {V = V} mid script script_max between now (Err fault) → HasRefusalCause content image script before now (refusal_of fault)
 script_refused_later V content mid image script file before between now fault same read later cause =
-    script_refused V content image script file before between now fault read later (subst (λ o. HasFileCause {V = V} o script SCRIPT_MAX between now (Err fault)) same cause)
+    script_refused V content image script file before between now fault read later (subst (λ o. HasFileCause {V = V} o script script_max between now (Err fault)) same cause)
 
-pub read_empty_later : (content mid : Option Contents) (name bytes : List ℕ) → mid ≡ content → IfTold mid (λ files. files name ≡ Some bytes) → length bytes ≤ 0 → IsRead content name SCRIPT_MAX []
+pub read_empty_later : (content mid : Option Contents) (name bytes : List ℕ) → mid ≡ content → IfTold mid (λ files. files name ≡ Some bytes) → length bytes ≤ 0 → IsRead content name script_max []
 read_empty_later content mid name bytes same told le = read_empty content name bytes (subst (λ o. IfTold o (λ files. files name ≡ Some bytes)) same told) le

@@ -5,8 +5,7 @@ use Rattle.after_edge.specs.Files.{Contents}
 use Rattle.after_edge.specs.Sink.{Adds, AddsPart}
 use Rattle.analysis_model.specs.Job.{status}
 use Rattle.analysis_model.specs.Report.{line, text}
-use Rattle.after_cli.specs.declared.inputs.TheConstants.{IMAGE_MAX}
-use Rattle.after_cli.specs.Inputs.{AreInputs, AreNotBuilt, HaveFailed, is_elf}
+use Rattle.after_cli.specs.Inputs.{image_max, AreInputs, AreNotBuilt, HaveFailed, is_elf}
 use Rattle.after_cli.specs.Job.{default_job}
 use Rattle.guard_run.specs.declared.closing.Closing.{Closing}
 use Rattle.after_cli.specs.JobEnds.{IsCutRun, IsWholeRun}
@@ -87,7 +86,7 @@ pub record IsToldRun (content : Option Contents) (words : List (List ℕ)) (file
   pub script : List ℕ
   pub named : NamesRun words image script
   pub image_is : files image ≡ Some file
-  pub within : length file ≤ IMAGE_MAX
+  pub within : length file ≤ image_max
   pub headless : is_elf file ≡ false
   pub script_is : files script ≡ Some []
 
