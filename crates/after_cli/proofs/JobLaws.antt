@@ -13,13 +13,13 @@ use Rattle.guard_run.specs.declared.closing.Closing.{Closing}
 use Rattle.guard_run.specs.Closings.{ClosesWhole, facts_at}
 use Rattle.guard_run.specs.Course.{Course, IsCourse, run_of, released_bytes}
 use Rattle.guard_run.proofs.ClosingLaws.{whole_facts}
-use Rattle.after_cli.specs.Job.{course_of, cover_job, report_text}
+use Rattle.after_cli.specs.Job.{job_course, cover_job, report_text}
 use Rattle.after_cli.specs.JobEnds.{IsWholeRun}
 
 -- the text of a job, from its course
-pub text-cover_job : (file : List ℕ) (ram_kib limit : ℕ) → released_bytes (course_of (cover_job file ram_kib limit)) ++ report_text (course_of (cover_job file ram_kib limit)) ≡ text (cover_job file ram_kib limit)
+pub text-cover_job : (file : List ℕ) (ram_kib limit : ℕ) → released_bytes (job_course (cover_job file ram_kib limit)) ++ report_text (job_course (cover_job file ram_kib limit)) ≡ text (cover_job file ram_kib limit)
 text-cover_job file ram_kib limit =
-    let c = course_of (cover_job file ram_kib limit) in
+    let c = job_course (cover_job file ram_kib limit) in
     sym (ap (λ l. released_bytes c ++ (head_text (run_facts (code_made_of c.made) (run_of c) (kind_made_of c.made ∷ [])) ++ l)) (append-nil (part_text (code_made_of c.made) (run_of c).events Cover)))
 
 -- the same report from the same facts
@@ -28,17 +28,17 @@ report_same : (made now : List ℕ) (h : List Event) (told facts : Facts) → to
 report_same made now h told facts facts_are made_is = λ i. head_text (facts_are i) ++ part_text (code_made_of (made_is i)) h (kind_made_of (made_is i))
 
 -- a job that may be run has a course
-pub has_course : (file : List ℕ) (ram_kib limit : ℕ) → limit ≤ 1000000000 → IsCourse (course_of (cover_job file ram_kib limit))
+pub has_course : (file : List ℕ) (ram_kib limit : ℕ) → limit ≤ 1000000000 → IsCourse (job_course (cover_job file ram_kib limit))
 has_course file ram_kib limit few = record { first = refl; limit = few; cap = omega arith }
 
 -- the closing of a run that went to its end is one of the whole job
-pub whole_run : (file : List ℕ) (ram_kib limit : ℕ) → limit ≤ 1000000000 → (closing : Closing) → ClosesWhole (course_of (cover_job file ram_kib limit)) closing → IsWholeRun (cover_job file ram_kib limit) closing
-whole_run file ram_kib limit few closing whole = record { closes = whole; facts_are = whole_facts (course_of (cover_job file ram_kib limit)) (has_course file ram_kib limit few) closing whole }
+pub whole_run : (file : List ℕ) (ram_kib limit : ℕ) → limit ≤ 1000000000 → (closing : Closing) → ClosesWhole (job_course (cover_job file ram_kib limit)) closing → IsWholeRun (cover_job file ram_kib limit) closing
+whole_run file ram_kib limit few closing whole = record { closes = whole; facts_are = whole_facts (job_course (cover_job file ram_kib limit)) (has_course file ram_kib limit few) closing whole }
 
 -- the report of a job, from its course
-pub report-cover_job : (file : List ℕ) (ram_kib limit : ℕ) → report_text (course_of (cover_job file ram_kib limit)) ≡ report (cover_job file ram_kib limit)
+pub report-cover_job : (file : List ℕ) (ram_kib limit : ℕ) → report_text (job_course (cover_job file ram_kib limit)) ≡ report (cover_job file ram_kib limit)
 report-cover_job file ram_kib limit =
-    let c = course_of (cover_job file ram_kib limit) in
+    let c = job_course (cover_job file ram_kib limit) in
     sym (ap (λ l. head_text (run_facts (code_made_of c.made) (run_of c) (kind_made_of c.made ∷ [])) ++ l) (append-nil (part_text (code_made_of c.made) (run_of c).events Cover)))
 
 -- the report of a closing, in the words of its course

@@ -17,8 +17,8 @@ unfoldable pub default_job : List ℕ → Job
 default_job file = cover_job file 1024 10000000
 
 -- the course of a run of it, with a log of 1,024 places
-abbrev pub course_of : Job → Course
-course_of job = record { start = started job.image job.ram_kib; limit = job.limit; cap = 1024; made = make_of Cover job.image }
+abbrev pub job_course : Job → Course
+job_course job = record { start = started job.image job.ram_kib; limit = job.limit; cap = 1024; made = make_of Cover job.image }
 
 -- the report of a course, and its status
 abbrev pub report_text : Course → List ℕ

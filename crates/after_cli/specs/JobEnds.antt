@@ -12,7 +12,7 @@ use Rattle.guard_run.specs.Course.{Course, IsCourse}
 use Rattle.guard_run.specs.Gates.{released_by}
 use Rattle.after_cli.specs.declared.running.JobEnd.{JobEnd}
 use Rattle.after_cli.specs.declared.running.JobEnd.TheVariants.{Done, OutputFailed, NoMemory}
-use Rattle.after_cli.specs.Job.{course_of}
+use Rattle.after_cli.specs.Job.{job_course}
 
 -- some course is that of a closing whose run went to its end
 pub record HasCourse (closing : Closing) : Type 0 where
@@ -23,14 +23,14 @@ pub record HasCourse (closing : Closing) : Type 0 where
 -- A run without a sink fault: the one list is the log of the job. It was appended and taken, each record once and in
 -- order, and then closed; the analysis has seen all events of the run; the facts are the job's.
 pub record IsWholeRun (job : Job) (closing : Closing) : Type 0 where
-  pub closes : ClosesWhole (course_of job) closing
+  pub closes : ClosesWhole (job_course job) closing
   pub facts_are : option_map facts_of (facts_at closing) ≡ Some (facts job)
 
 -- A put of the guest's output failed. The one list is a front of the log of the job, and a front was written of the bytes
 -- that are let out of that list's records.
 pub record IsCutInOutput {S : Type 0} (holds : S → List ℕ → Type 0) (old new : S) (job : Job) (closing : Closing) : Type 0 where
-  pub put : AddsPart holds old new (released_by (course_of job) closing.hub.appended)
-  pub closes : ClosesFront (course_of job) closing
+  pub put : AddsPart holds old new (released_by (job_course job) closing.hub.appended)
+  pub closes : ClosesFront (job_course job) closing
 
 -- A put of the report failed. The run was whole, and all released output was written, and a front of the report.
 pub record IsCutInReport {S : Type 0} (holds : S → List ℕ → Type 0) (old new : S) (job : Job) (closing : Closing) : Type 0 where

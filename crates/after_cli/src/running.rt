@@ -12,7 +12,7 @@ ghost use Rattle.analysis_set.specs.Head.{facts_of};
 ghost use Rattle.guard_run.specs.Closings.{ClosesWhole};
 ghost use Rattle.guard_run.specs.Course.{Course, IsCourse};
 ghost use Rattle.guard_run.specs.Runs.{IsOpened};
-ghost use Rattle.after_cli.specs.Job.{course_of, cover_job, report_text, status_at};
+ghost use Rattle.after_cli.specs.Job.{job_course, cover_job, report_text, status_at};
 ghost use Rattle.after_cli.specs.JobEnds.{HasCourse, JobEnds};
 
 use after_edge::{Failed, Sink};
@@ -43,7 +43,7 @@ fn open(alloc: Global, file: Vec<u8>, ram_kib: u32, limit: u32) -> Result<Parts,
     requires most { ram_kib ≤ 16384 }
     requires fits { length file.items ≤ 1024 * ram_kib }
     requires steps { limit ≤ 1000000000 }
-    ensures { IfOk result (λ parts. IsOpened (course_of (cover_job file.items ram_kib limit)) parts) }
+    ensures { IfOk result (λ parts. IsOpened (job_course (cover_job file.items ram_kib limit)) parts) }
 {
     let image = read_flat(alloc, file)?;
     let job = RunJob {

@@ -1,5 +1,5 @@
 -- Where first findings stand.
-use Rattle.std.proofs.Common.{◌≡◌, ◌⊎◌, inl, inr, ℕ, ◌+◌, ◌<◌, min, true, false, cond, List, [], ◌∷◌, ◌++◌, Option, Some, None, refl, sym, ap, subst, ◌∙◌, arith}
+use Rattle.std.proofs.Common.{◌≡◌, ℕ, true, false, cond, List, [], ◌∷◌, ◌++◌, Option, Some, None, refl, sym, subst}
 use Rattle.std.specs.Prelude.{IfSome, unwrap_or}
 use Rattle.std.specs.List.{filter_map, cons_option, AllByRecursion}
 use Rattle.std.proofs.lemmas.List.Elements.{filter_map-append}
@@ -9,16 +9,13 @@ use Rattle.run_events.specs.declared.finding.Finding.{Finding}
 use Rattle.run_events.specs.declared.finding.FindingKind.TheVariants.{Outside}
 use Rattle.run_events.specs.declared.finding.Kind.{Kind}
 use Rattle.run_events.specs.declared.finding.Kind.TheVariants.{Heap, Taint, Calls, Cover, Locks}
-use Rattle.run_events.specs.declared.record.EndCause.{EndCause}
 use Rattle.run_events.specs.Event.{step_of}
-use Rattle.machine_model.specs.Run.{Finished}
 use Rattle.analysis_model.specs.Cover.{Span, is_within, outside, outside_at}
 use Rattle.analysis_model.specs.Findings.{findings, first_step}
-use Rattle.analysis_model.specs.Job.{first_refused, least_refused}
 
--- all events stand before this step
-abbrev pub Below : ℕ → List Event → Type 0
-Below n events = AllByRecursion (λ event. step_of event < n) events
+-- this is true of the step of each event
+abbrev pub Each : (ℕ → Type 0) → List Event → Type 0
+Each P events = AllByRecursion (λ event. P (step_of event)) events
 
 pub findings-append : (kind : Kind) (code : List Span) (xs ys : List Event) → findings kind code (xs ++ ys) ≡ findings kind code xs ++ findings kind code ys
 findings-append Cover code xs ys = filter_map-append (outside code) xs ys
@@ -37,21 +34,21 @@ outside_stands code (Irq step pc cause next) = tt
 outside_stands code (Trap step pc word cause value next) = stands_at code step pc
 outside_stands code (Exec step pc word next result access told) = stands_at code step pc
 
-outside_first : (code : List Span) (n : ℕ) (event : Event) (events : List Event) → step_of event < n → IfSome (first_step (filter_map (outside code) events)) (λ f. f < n) → IfSome (first_step (filter_map (outside code) (event ∷ events))) (λ f. f < n)
-outside_first code n event events below rest = by_case (outside code event) (outside_stands code event)
+outside_first : (P : ℕ → Type 0) (code : List Span) (event : Event) (events : List Event) → P (step_of event) → IfSome (first_step (filter_map (outside code) events)) P → IfSome (first_step (filter_map (outside code) (event ∷ events))) P
+outside_first P code event events here rest = by_case (outside code event) (outside_stands code event)
   where
-    by_case : (o : Option Finding) → IfSome o (λ finding. finding.step ≡ step_of event) → IfSome (first_step (cons_option o (filter_map (outside code) events))) (λ f. f < n)
+    by_case : (o : Option Finding) → IfSome o (λ finding. finding.step ≡ step_of event) → IfSome (first_step (cons_option o (filter_map (outside code) events))) P
     by_case None at = rest
-    by_case (Some finding) at = omega (arith, at)
+    by_case (Some finding) at = subst P (sym at) here
 
--- the first finding of events before n stands before n
-pub first_below : (kind : Kind) (code : List Span) (n : ℕ) (events : List Event) → Below n events → IfSome (first_step (findings kind code events)) (λ f. f < n)
-first_below Cover code n [] below = tt
-first_below Cover code n (event ∷ events) below = outside_first code n event events below.0 (first_below Cover code n events below.1)
-first_below Heap code n events below = tt
-first_below Taint code n events below = tt
-first_below Calls code n events below = tt
-first_below Locks code n events below = tt
+-- what is true of the steps of all events is true of the first finding's
+pub first_meets : (P : ℕ → Type 0) (kind : Kind) (code : List Span) (events : List Event) → Each P events → IfSome (first_step (findings kind code events)) P
+first_meets P Cover code [] all = tt
+first_meets P Cover code (event ∷ events) all = outside_first P code event events all.0 (first_meets P Cover code events all.1)
+first_meets P Heap code events all = tt
+first_meets P Taint code events all = tt
+first_meets P Calls code events all = tt
+first_meets P Locks code events all = tt
 
 pub first_step-append : (xs ys : List Finding) (n : ℕ) → unwrap_or (first_step (xs ++ ys)) n ≡ unwrap_or (first_step xs) (unwrap_or (first_step ys) n)
 first_step-append [] ys n = refl

@@ -1,4 +1,3 @@
 mod Examples
 pub mod MadeLaws
 pub mod FirstLaws
-pub mod StopLaws

@@ -1,5 +1,5 @@
 -- Every event of the core keeps a sound state sound.
-use Rattle.std.proofs.Common.{◌≡◌, ℕ, ◌+◌, ◌-◌, ◌<◌, ◌≤◌, inl, inr, Bool, true, false, ◌&&◌, ◌||◌, nat_eq, nat_lt, List, [], ◌∷◌, ◌++◌, length, take, drop, reverse, slice_index, slice_set, arith, refl, sym, ap, subst, ◌∙◌, zero, suc}
+use Rattle.std.proofs.Common.{◌≡◌, ◌⊎◌, ℕ, ◌+◌, ◌-◌, ◌<◌, ◌≤◌, inl, inr, Bool, true, false, ◌&&◌, ◌||◌, nat_eq, nat_lt, List, [], ◌∷◌, ◌++◌, length, take, drop, reverse, slice_index, slice_set, arith, refl, sym, ap, subst, ◌∙◌, zero, suc}
 use Rattle.std.proofs.lemmas.List.{length-drop, length-reverse, length-replicate, length-set, reverse-append, take-append-drop, drop_at, get_or-replicate}
 use Rattle.std.proofs.lemmas.Bool.{cases_lt}
 use Rattle.run_events.specs.declared.record.Record.{Record}
@@ -102,8 +102,11 @@ append_IsSound plan s ok was may =
       closed = λ h. let both : false ≡ true = sym may.«open» ∙ h in grind arith;
     }
 
-close_IsSound : (plan : Plan) (s : CoreState) → IsSound plan s → May plan s Close → IsSound plan (after_event plan s Close)
-close_IsSound plan s was may = record {
+-- what is sound of the log and its readers stays so, whatever was closed, has failed or was released
+outside_IsSound : (plan : Plan) (s : CoreState) → IsSound plan s → (closed failed : Bool) (released : ℕ) → released ≤ length plan.outputs
+    → ((byte : ℕ) → byte < released → IsShown plan s (slice_index plan.outputs byte)) → (closed ≡ true → (s.appended ≡ length plan.items) ⊎ (failed ≡ true))
+    → IsSound plan (record s { closed = closed; failed = failed; released = released })
+outside_IsSound plan s was closed failed released there shown over = record {
   taken = was.taken;
   approved = was.approved;
   appended = was.appended;
@@ -113,9 +116,9 @@ close_IsSound plan s was may = record {
     limit = (was.readers reader low).limit;
     seen = (was.readers reader low).seen;
   };
-  released = was.released;
-  shown = λ byte low. record { reached = (was.shown byte low).reached; approved = (was.shown byte low).approved };
-  closed = λ h. may.1;
+  released = there;
+  shown = λ byte low. record { reached = (shown byte low).reached; approved = (shown byte low).approved };
+  closed = over;
 }
 
 take_IsSound : (plan : Plan) (s : CoreState) (reader : ℕ) → IsPlan plan → IsSound plan s → May plan s (TakeNext reader) → IsSound plan (after_event plan s (TakeNext reader))
@@ -183,45 +186,14 @@ shown_more plan s count done was may part byte low =
       | inr far ↦ may.shown byte far (omega arith)
     ]
 
-release_IsSound : (plan : Plan) (s : CoreState) (count : ℕ) → IsSound plan s → May plan s (Release count) → IsSound plan (after_event plan s (Release count))
-release_IsSound plan s count was may = record {
-  taken = was.taken;
-  approved = was.approved;
-  appended = was.appended;
-  readers = λ reader low. record {
-    taken = (was.readers reader low).taken;
-    room = (was.readers reader low).room;
-    limit = (was.readers reader low).limit;
-    seen = (was.readers reader low).seen;
-  };
-  released = may.there;
-  shown = λ byte low. let now : IsShown plan s (slice_index plan.outputs byte) = shown_more plan s count count was may (omega arith) byte low in record { reached = now.reached; approved = now.approved };
-  closed = was.closed;
-}
-
-break_IsSound : (plan : Plan) (s : CoreState) (count done : ℕ) → IsSound plan s → May plan s (Break count done) → IsSound plan (after_event plan s (Break count done))
-break_IsSound plan s count done was may = record {
-  taken = was.taken;
-  approved = was.approved;
-  appended = was.appended;
-  readers = λ reader low. record {
-    taken = (was.readers reader low).taken;
-    room = (was.readers reader low).room;
-    limit = (was.readers reader low).limit;
-    seen = (was.readers reader low).seen;
-  };
-  released = omega (arith, may.0.there, may.1);
-  shown = λ byte low. let now : IsShown plan s (slice_index plan.outputs byte) = shown_more plan s count done was may.0 may.1 byte low in record { reached = now.reached; approved = now.approved };
-  closed = λ h. inr refl;
-}
-
 pub event_IsSound : (plan : Plan) (s : CoreState) (event : CoreEvent) → IsPlan plan → IsSound plan s → May plan s event → IsSound plan (after_event plan s event)
 event_IsSound plan s Append ok was may = append_IsSound plan s ok was may
-event_IsSound plan s Close ok was may = close_IsSound plan s was may
+event_IsSound plan s Close ok was may = outside_IsSound plan s was true s.failed s.released was.released was.shown (λ _. may.1)
 event_IsSound plan s (TakeNext reader) ok was may = take_IsSound plan s reader ok was may
 event_IsSound plan s (Post reader) ok was may = post_IsSound plan s reader was may
-event_IsSound plan s (Release count) ok was may = release_IsSound plan s count was may
-event_IsSound plan s (Break count done) ok was may = break_IsSound plan s count done was may
+event_IsSound plan s (Release count) ok was may = outside_IsSound plan s was s.closed s.failed (s.released + count) may.there (shown_more plan s count count was may (omega arith)) was.closed
+event_IsSound plan s (Break count done) ok was may =
+    outside_IsSound plan s was s.closed true (s.released + done) (omega (arith, may.0.there, may.1)) (shown_more plan s count done was may.0 may.1) (λ _. inr refl)
 
 events_IsSound : (plan : Plan) → IsPlan plan → (events : List CoreEvent) (s last : CoreState) → IsSound plan s → Leads plan s events last → IsSound plan last
 events_IsSound plan ok [] s last was leads = subst (IsSound plan) leads was

@@ -1,12 +1,12 @@
 -- Each call of a hub is its event of the core.
 use Rattle.std.proofs.Common.{◌≡◌, ℕ, zero, suc, ◌+◌, ◌-◌, ◌<◌, ◌≤◌, Bool, true, false, cond, nat_eq, nat_lt, List, [], ◌∷◌, ◌++◌, length, take, drop, slice_index, slice_set, slice_get, Option, Some, None, arith, refl, sym, ap, subst, ◌∙◌}
 use Rattle.std.specs.Prelude.{is_some, option_map}
-use Rattle.std.specs.Option.{option_to_list}
 use Rattle.std.specs.List.{position}
 use Rattle.std.proofs.lemmas.List.Quantifiers.{position-Some}
 use Rattle.std.proofs.lemmas.List.{length-drop, length-take-le, drop-append-le, drop-drop, length_push, map-set}
 use Rattle.std.proofs.lemmas.Option.{slice_get_within}
 use Rattle.circular_buffer.specs.Buffer.{keep_last}
+use Rattle.list_laws.proofs.PrefixLaws.{take-next}
 use Rattle.run_events.specs.declared.record.Record.{Record}
 use Rattle.gate_core.specs.declared.full.Full.{Full}
 use Rattle.gate_core.specs.declared.verdict.Verdict.{Verdict}
@@ -14,12 +14,6 @@ use Rattle.gate_core.specs.Core.{Plan, CoreState, approves}
 use Rattle.gate_core.specs.Hub.{HubState, hub_state, full_of, full_at}
 use Rattle.gate_core.specs.Follow.{hub_of, approvals, Appends, Refuses, Takes, Posts}
 use Rattle.gate_core.proofs.HubLaws.{room_left}
-
--- one record more
-take_more : {X : Type 0} (n : ℕ) (xs : List X) (x : X) → slice_get xs n ≡ Some x → take (suc n) xs ≡ take n xs ++ x ∷ []
-take_more n [] x is = cc
-take_more zero (y ∷ ys) x is = ap (λ o. option_to_list o) is
-take_more (suc n) (y ∷ ys) x is = ap (λ l. y ∷ l) (take_more n ys x is)
 
 -- what is found in a part is found in the whole
 from_taken : {X : Type 0} (n : ℕ) (xs : List X) (i : ℕ) (x : X) → slice_get (take n xs) i ≡ Some x → slice_get xs i ≡ Some x
@@ -72,7 +66,7 @@ appends plan s posted item sound opened fine next none =
     let test : is_some (full_of (hub_of plan s posted)) ≡ false = ap is_some none in
     let low : s.appended < length plan.items = slice_get_within plan.items s.appended item next in
     let one : suc s.appended ≡ s.appended + 1 = omega arith in
-    let longer : all ++ item ∷ [] ≡ take (s.appended + 1) plan.items = sym (take_more s.appended plan.items item next) ∙ ap (λ n. take n plan.items) one in
+    let longer : all ++ item ∷ [] ≡ take (s.appended + 1) plan.items = sym (take-next s.appended plan.items item next) ∙ ap (λ n. take n plan.items) one in
     record {
       may = record {
         «open» = opened;

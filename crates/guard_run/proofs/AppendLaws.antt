@@ -22,6 +22,7 @@ use Rattle.guard_run.specs.Sources.{item_of, still_to_come}
 use Rattle.guard_run.proofs.CourseLaws.{is_plan}
 use Rattle.guard_run.proofs.ItemLaws.{IsNext, next_item, no_item_left, log_short}
 use Rattle.guard_run.proofs.IssueLaws.{after_item, rises_next}
+use Rattle.guard_run.proofs.ReplicaLaws.{follows_on}
 
 -- the same run with another source, from which the same is to come
 abbrev pub with_source : Parts → Source → Parts
@@ -50,17 +51,8 @@ module _ (c : Course) (core : CoreState) (parts : Parts) (at : IsAt c core parts
         «open» = open_before opened;
         all = all;
         at = record {
-          follows = record {
-            course = f.course;
-            stands = ap with_close f.stands;
-            approved = f.approved;
-            sound = event_IsSound (plan_of c) core Close (is_plan c f.course) f.sound (open_before opened, inl all);
-            reader = f.reader;
-            replays = f.replays;
-            seen = f.seen;
-            made = f.made;
-            size = f.size;
-          };
+          follows = follows_on c core parts.hub parts.replica f core.appended true core.failed core.released (with_close parts.hub) (ap with_close f.stands)
+              (event_IsSound (plan_of c) core Close (is_plan c f.course) f.sound (open_before opened, inl all));
           rest = at.rest ∙ none ∙ sym none_now;
           gates = record {
             steps = at.gates.steps;
@@ -99,17 +91,8 @@ module _ (c : Course) (core : CoreState) (parts : Parts) (at : IsAt c core parts
           «open» = open_before opened;
           more = next.less;
           at = record {
-            follows = record {
-              course = f.course;
-              stands = ap (λ h. with_append h entry.item) f.stands ∙ does.after;
-              approved = f.approved;
-              sound = event_IsSound (plan_of c) core Append (is_plan c f.course) f.sound does.may;
-              reader = f.reader;
-              replays = f.replays;
-              seen = f.seen;
-              made = f.made;
-              size = f.size;
-            };
+            follows = follows_on c core parts.hub parts.replica f (core.appended + 1) core.closed core.failed core.released (with_append parts.hub entry.item) (ap (λ h. with_append h entry.item) f.stands ∙ does.after)
+                (event_IsSound (plan_of c) core Append (is_plan c f.course) f.sound does.may);
             rest = next.rest_is;
             gates = after_item c core parts.gate at.gates (item_of entry) (still_to_come source) next room;
             end = sym (ap end_in next.longer ∙ ap end_back (reverse-append (take core.appended (log_of c)) (entry.item ∷ [])));

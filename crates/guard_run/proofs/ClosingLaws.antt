@@ -4,6 +4,7 @@ use Rattle.std.proofs.Common.{◌≡◌, ℕ, true, [], ◌∷◌, length, take,
 use Rattle.std.specs.Option.{option_map}
 use Rattle.std.specs.List.{flat_map}
 use Rattle.std.proofs.lemmas.List.{length-take-le, length-map, take_all, reverse-append}
+use Rattle.list_laws.proofs.PrefixLaws.{take_IsPrefix}
 use Rattle.run_events.specs.declared.record.EndCause.{EndCause}
 use Rattle.run_events.specs.declared.record.Record.TheVariants.{End}
 use Rattle.run_events.specs.Record.{reach}
@@ -27,7 +28,7 @@ use Rattle.guard_run.specs.Replicas.{Follows, taken_by}
 use Rattle.guard_run.specs.Runs.{IsEnded, IsStopped}
 use Rattle.guard_run.proofs.CourseLaws.{numbered, reach_whole}
 use Rattle.guard_run.proofs.ItemLaws.{issued_all}
-use Rattle.guard_run.proofs.ListLaws.{single, take_IsPrefix}
+use Rattle.guard_run.proofs.ListLaws.{single}
 
 -- the closing of the parts of a run
 abbrev pub closing_of : Parts → Closing

@@ -4,6 +4,8 @@ use Rattle.std.specs.Prelude.{nat_lt, ◌&&◌, min, unwrap_or, slice_index, IfS
 use Rattle.std.specs.Option.{option_map}
 use Rattle.std.specs.List.{flat_map, cons_option}
 use Rattle.std.proofs.lemmas.List.{take_all, reverse-append}
+use Rattle.std.proofs.lemmas.Option.{none-some}
+use Rattle.list_laws.proofs.PrefixLaws.{take_IsPrefix}
 use Rattle.run_events.specs.declared.event.Event.{Event}
 use Rattle.run_events.specs.declared.record.Record.{Record}
 use Rattle.run_events.specs.declared.record.Record.TheVariants.{End}
@@ -17,8 +19,7 @@ use Rattle.replayer.proofs.Determinism.{each_front_fits, front_shown}
 use Rattle.analysis_model.specs.Made.{code_made_of, kind_made_of}
 use Rattle.analysis_model.specs.Findings.{findings, first_step}
 use Rattle.analysis_model.specs.Job.{first_refused}
-use Rattle.analysis_model.proofs.FirstLaws.{Below, findings-append, first_step-append, first_below}
-use Rattle.analysis_model.proofs.StopLaws.{From, first_from}
+use Rattle.analysis_model.proofs.FirstLaws.{Each, findings-append, first_step-append, first_meets}
 use Rattle.gate_core.specs.declared.verdict.Verdict.{Verdict}
 use Rattle.gate_core.specs.Core.{IsPlan, RisesFrom, reached}
 use Rattle.gate_core.proofs.CoreLaws.{reach_rises}
@@ -27,20 +28,17 @@ use Rattle.output_gate.proofs.GateLaws.{Climbs-wider, Climbs-at}
 use Rattle.guard_run.specs.Course.{Course, IsCourse, run_of, log_of, output_of, plan_of}
 use Rattle.guard_run.specs.Replicas.{verdict_of}
 use Rattle.guard_run.specs.Verdicts.{verdict_from}
-use Rattle.guard_run.proofs.ListLaws.{steps_of, take_IsPrefix}
+use Rattle.guard_run.proofs.ListLaws.{steps_of}
 
 -- a list without a fault is in order
-some_none : (fault : Fault) → ◌≡◌ {A = Option Fault} (Some fault) None → ⊥
-some_none fault e = cc
-
 fault_parts : (start : State) (before : List Record) (item : Record) → first_fault_back start (item ∷ before) ≡ None → (o : Option Fault) → first_fault_back start before ≡ o → (o ≡ None) × (fault_of start before item ≡ None)
 unfolding first_fault_back
 fault_parts start before item fits None is = (refl, ap (fault_behind start before item) (sym is) ∙ fits)
-fault_parts start before item fits (Some fault) is = absurd (some_none fault (ap (fault_behind start before item) (sym is) ∙ fits))
+fault_parts start before item fits (Some fault) is = absurd (none-some fault (sym fits ∙ ap (fault_behind start before item) is))
 
 admitted_by : (b : Bool) (fault : Option Fault) (falls : Fault) → cond b fault (Some falls) ≡ None → b ≡ true
 admitted_by true fault falls none = refl
-admitted_by false fault falls none = absurd (some_none falls none)
+admitted_by false fault falls none = absurd (none-some falls (sym none))
 
 both : (a b : Bool) → a ≡ true → b ≡ true → (a && b) ≡ true
 both a b left right = ap (λ x. x && b) left ∙ right
@@ -138,13 +136,13 @@ module _ (c : Course) (is : IsCourse c) (k : ℕ) where
       let code = code_made_of c.made in
       let kind = kind_made_of c.made in
       let zero_plus : 0 + r ≡ r = omega arith in
-      let below : Below r (take r run.events) = subst (λ n. Below n (take r run.events)) zero_plus (below_taken 0 r run.events (numbered c is).events) in
-      let from : From r (drop r run.events) = subst (λ n. From n (drop r run.events)) zero_plus (from_dropped 0 r run.events (numbered c is).events) in
+      let below : Each (λ f. f < r) (take r run.events) = subst (λ n. Each (λ f. f < n) (take r run.events)) zero_plus (below_taken 0 r run.events (numbered c is).events) in
+      let from : Each (λ f. r ≤ f) (drop r run.events) = subst (λ n. Each (λ f. n ≤ f) (drop r run.events)) zero_plus (from_dropped 0 r run.events (numbered c is).events) in
       let seen = findings kind code (take r run.events) in
       let rest = findings kind code (drop r run.events) in
       let first_is : first_refused code run kind ≡ unwrap_or (first_step seen) (unwrap_or (first_step rest) run.steps) =
       ap (λ l. unwrap_or (first_step (findings kind code l)) run.steps) (sym (take-append-drop r run.events))
       ∙ ap (λ l. unwrap_or (first_step l) run.steps) (findings-append kind code (take r run.events) (drop r run.events))
       ∙ first_step-append seen rest run.steps in
-      verdict_by r run.steps (first_step seen) (first_step rest) (first_below kind code r (take r run.events) below) (first_from kind code r (drop r run.events) from) (reach_within c is k)
+      verdict_by r run.steps (first_step seen) (first_step rest) (first_meets (λ f. f < r) kind code (take r run.events) below) (first_meets (λ f. r ≤ f) kind code (drop r run.events) from) (reach_within c is k)
       ∙ ap (λ f. record { approved = min (min f run.steps) r; refused = nat_lt (min f run.steps) r }) (sym first_is)

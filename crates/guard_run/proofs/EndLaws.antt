@@ -1,14 +1,14 @@
 -- A run that has come to its end, and one that a failed put has ended.
-use Rattle.std.proofs.Common.{◌≡◌, ◌⊎◌, inl, inr, ℕ, zero, suc, ◌≤◌, true, false, List, [], ◌∷◌, ◌++◌, length, take, drop, Option, Some, None, refl, sym, ap, subst, ◌∙◌, arith, take-append-drop}
+use Rattle.std.proofs.Common.{◌≡◌, ◌⊎◌, inl, inr, ℕ, ◌≤◌, true, false, List, ◌++◌, length, take, drop, Option, Some, None, sym, ap, subst, ◌∙◌, arith, take-append-drop, true≢false}
 use Rattle.std.specs.Prelude.{nat_lt}
-use Rattle.std.proofs.lemmas.List.{map-append, length-map, length-drop, take_all}
+use Rattle.std.proofs.lemmas.List.{map-append, length-map, length-drop, take_all, take-take}
 use Rattle.std.proofs.lemmas.List.Elements.{filter-append}
 use Rattle.after_edge.specs.Sink.{Adds}
-use Rattle.after_edge.proofs.SinkLaws.{Adds-same, Adds-then, AddsPart-same, AddsPart-then, AddsPart-front}
+use Rattle.after_edge.proofs.SinkLaws.{Adds-same, Adds-then}
 use Rattle.list_laws.specs.Prefix.{IsPrefix}
-use Rattle.list_laws.proofs.PrefixLaws.{IsPrefix-map}
+use Rattle.list_laws.proofs.PrefixLaws.{IsPrefix-map, IsPrefix-take}
 use Rattle.analysis_model.specs.Job.{before_step}
-use Rattle.gate_core.specs.Core.{CoreState, Close, after_event, IsSound}
+use Rattle.gate_core.specs.Core.{CoreState, Break, Close, after_event, IsSound}
 use Rattle.gate_core.specs.Hub.{HubState, with_close}
 use Rattle.gate_core.proofs.CoreLaws.{event_IsSound}
 use Rattle.guard_run.specs.declared.parts.Parts.{Parts}
@@ -16,10 +16,11 @@ use Rattle.guard_run.specs.declared.replica.Replica.{Replica}
 use Rattle.guard_run.specs.Course.{Course, log_of, output_of, stop_of, plan_of, released_bytes, IsCourse}
 use Rattle.guard_run.specs.Gates.{issued_by, kept, still_waiting, released_by}
 use Rattle.guard_run.specs.Replicas.{Follows, after_turn}
-use Rattle.guard_run.specs.Runs.{IsIdle, IsBroken, IsOnItsWay, IsReadOut, HasEnded, HasStopped, HasBrokenRound, with_released, bytes_between}
-use Rattle.guard_run.proofs.ListLaws.{bytes_in, AllBelow, before-all, front-take, before-long}
+use Rattle.guard_run.specs.Runs.{IsIdle, IsBroken, IsOnItsWay, IsReadOut, HasEnded, HasStopped, HasBrokenRound, bytes_between}
+use Rattle.guard_run.proofs.ListLaws.{bytes_in, AllBelow, before-all, before-long}
 use Rattle.guard_run.proofs.CourseLaws.{is_plan}
 use Rattle.guard_run.proofs.ItemLaws.{issued_all, issued_IsPrefix}
+use Rattle.guard_run.proofs.ReplicaLaws.{follows_on}
 use Rattle.guard_run.proofs.ReleaseLaws.{kept_IsPrefix, released_below}
 
 -- the bytes up to a place, and on from there
@@ -27,13 +28,7 @@ pub between-then : (c : Course) (p q : ℕ) → p ≤ q → bytes_between c 0 p 
 between-then c p q le =
     let out = output_of c in
     sym (map-append (λ (byte : ℕ × ℕ). byte.1) (take p out) (drop p (take q out)))
-    ∙ ap bytes_in (ap (λ l. l ++ drop p (take q out)) (sym (take_less p q out le)) ∙ take-append-drop p (take q out))
-  where
-    take_less : {X : Type 0} (p q : ℕ) (xs : List X) → p ≤ q → take p (take q xs) ≡ take p xs
-    take_less zero q xs le = refl
-    take_less (suc p) zero xs le = absurd (omega (arith, le))
-    take_less (suc p) (suc q) [] le = refl
-    take_less (suc p) (suc q) (x ∷ xs) le = ap (λ l. x ∷ l) (take_less p q xs (omega (arith, le)))
+    ∙ ap bytes_in (ap (λ l. l ++ drop p (take q out)) (sym (take-take p q out le)) ∙ take-append-drop p (take q out))
 
 -- where all was appended and nothing waits, all that the analysis lets out is released
 module _ (c : Course) (core : CoreState) (parts : Parts) (idle : IsIdle c core parts) (closed : core.closed ≡ true) where
@@ -42,7 +37,7 @@ module _ (c : Course) (core : CoreState) (parts : Parts) (idle : IsIdle c core p
     where
       by : ((core.appended ≡ length (log_of c)) ⊎ (core.failed ≡ true)) → core.appended ≡ length (log_of c)
       by (inl all) = all
-      by (inr failed) = absurd (let both : ◌≡◌ true false = sym failed ∙ idle.at.sound in cc)
+      by (inr failed) = absurd (true≢false (sym failed ∙ idle.at.sound))
 
   issued_is : issued_by c core.appended ≡ output_of c
   issued_is = issued_all c idle.at.follows.course core.appended (omega (arith, all_appended))
@@ -64,7 +59,7 @@ module _ (c : Course) (core : CoreState) (parts : Parts) (idle : IsIdle c core p
 
   released_is : take core.released (output_of c) ≡ before_step (stop_of c) (output_of c)
   released_is =
-      sym (front-take core.released (kept parts.gate.from (issued_by c core.appended)) (output_of c) (kept_IsPrefix c idle.at.follows.course parts.gate.from core.appended) idle.at.gates.there)
+      sym (IsPrefix-take core.released (kept parts.gate.from (issued_by c core.appended)) (output_of c) (kept_IsPrefix c idle.at.follows.course parts.gate.from core.appended) idle.at.gates.there)
       ∙ take_all core.released (kept parts.gate.from (issued_by c core.appended)) (omega (arith, long))
       ∙ kept_is
 
@@ -81,25 +76,27 @@ module _ (c : Course) (core : CoreState) (parts : Parts) (idle : IsIdle c core p
     put = Adds-same holds old new (ap bytes_in released_is) put;
   }
 
--- the bytes that a sound core may have released are the first of those that the analysis lets out of the appended records
-might_front : (c : Course) (core : CoreState) (count : ℕ) → IsCourse c → IsSound (plan_of c) (with_released core count) → count ≤ length (issued_by c core.appended) → IsPrefix (bytes_between c 0 count) (released_by c core.appended)
-might_front c core count is sound within =
-    let sent = issued_by c core.appended in
-    let same : take count sent ≡ take count (output_of c) = front-take count sent (output_of c) (issued_IsPrefix c is core.appended) within in
-    let below : AllBelow (stop_of c) (take count sent) = subst (AllBelow (stop_of c)) (sym same) (released_below c (with_released core count) sound) in
-    IsPrefix-map (λ (byte : ℕ × ℕ). byte.1) (record {
-      rest = before_step (stop_of c) (drop count sent);
-      joined = ap (λ l. l ++ before_step (stop_of c) (drop count sent)) (sym same ∙ sym (before-all (stop_of c) (take count sent) below))
-          ∙ sym (filter-append (λ (byte : ℕ × ℕ). nat_lt byte.0 (stop_of c)) (take count sent) (drop count sent)) ∙ ap (before_step (stop_of c)) (take-append-drop count sent);
-    })
+-- the bytes that a sound core has released are the first of those that the analysis lets out of the appended records
+module _ (c : Course) (core : CoreState) (is : IsCourse c) (sound : IsSound (plan_of c) core) (there : core.released ≤ length (issued_by c core.appended)) where
+  abbrev sent : List (ℕ × ℕ)
+  sent = issued_by c core.appended
 
--- and so they are no more than those
-pub released_short : (c : Course) (core : CoreState) → IsCourse c → IsSound (plan_of c) core → core.released ≤ length (issued_by c core.appended) → core.released ≤ length (released_by c core.appended)
-released_short c core is sound there =
-    let sent = issued_by c core.appended in
-    let same : take core.released sent ≡ take core.released (output_of c) = front-take core.released sent (output_of c) (issued_IsPrefix c is core.appended) there in
-    let below : AllBelow (stop_of c) (take core.released sent) = subst (AllBelow (stop_of c)) (sym same) (released_below c core sound) in
-    omega (arith, before-long (stop_of c) core.released sent there below, length-map (before_step (stop_of c) sent) (λ (byte : ℕ × ℕ). byte.1))
+  same : take core.released (issued_by c core.appended) ≡ take core.released (output_of c)
+  same = IsPrefix-take core.released sent (output_of c) (issued_IsPrefix c is core.appended) there
+
+  below : AllBelow (stop_of c) (take core.released (issued_by c core.appended))
+  below = subst (AllBelow (stop_of c)) (sym same) (released_below c core sound)
+
+  released_front : IsPrefix (bytes_between c 0 core.released) (released_by c core.appended)
+  released_front = IsPrefix-map (λ (byte : ℕ × ℕ). byte.1) (record {
+    rest = before_step (stop_of c) (drop core.released sent);
+    joined = ap (λ l. l ++ before_step (stop_of c) (drop core.released sent)) (sym same ∙ sym (before-all (stop_of c) (take core.released sent) below))
+        ∙ sym (filter-append (λ (byte : ℕ × ℕ). nat_lt byte.0 (stop_of c)) (take core.released sent) (drop core.released sent)) ∙ ap (before_step (stop_of c)) (take-append-drop core.released sent);
+  })
+
+  -- and so they are no more than those
+  pub released_short : core.released ≤ length (released_by c core.appended)
+  released_short = omega (arith, before-long (stop_of c) core.released sent there below, length-map (before_step (stop_of c) sent) (λ (byte : ℕ × ℕ). byte.1))
 
 -- which is a front of all that it lets out
 pub released_by_IsPrefix : (c : Course) (is : IsCourse c) (count : ℕ) → IsPrefix (released_by c count) (released_bytes c)
@@ -110,23 +107,32 @@ released_by_IsPrefix c is count =
       joined = sym (filter-append (λ (byte : ℕ × ℕ). nat_lt byte.0 (stop_of c)) (issued_by c count) front.rest) ∙ ap (before_step (stop_of c)) front.joined;
     })
 
--- after a put that failed
-pub has_stopped : (c : Course) (core : CoreState) (round : Parts) (parts : Parts) {S : Type 0} (holds : S → List ℕ → Type 0) (first old new : S) → Adds holds first old (bytes_between c 0 core.released)
-    → (b : HasBrokenRound c core round holds old new) → IsReadOut c (record b.next { failed = true }) parts → HasStopped c parts holds first new
-has_stopped c core round parts holds first old new put b out = record {
-  stopped = record { core = out.last; broken = out.broken; closed = out.closed; taken = out.taken };
-  put =
-      let appended : parts.hub.appended ≡ b.next.appended = (λ i. (out.broken.follows.stands i).appended) ∙ out.same in
-      AddsPart-front holds first new (bytes_between c 0 b.count) (released_by c parts.hub.appended)
-      (subst (λ n. IsPrefix (bytes_between c 0 b.count) (released_by c n)) (sym appended) (might_front c b.next b.count out.broken.follows.course b.might b.within))
-      (AddsPart-same holds first new (between-then c core.released b.count b.more) (AddsPart-then holds first old new (bytes_between c 0 core.released) (bytes_between c core.released b.count) put b.put));
-}
-
 -- the bytes that two rounds have put
 pub put_then : (c : Course) (core next : CoreState) {S : Type 0} (holds : S → List ℕ → Type 0) (first old new : S) → core.released ≤ next.released → Adds holds first old (bytes_between c 0 core.released)
     → Adds holds old new (bytes_between c core.released next.released) → Adds holds first new (bytes_between c 0 next.released)
 put_then c core next holds first old new more put added =
     Adds-same holds first new (between-then c core.released next.released more) (Adds-then holds first old new (bytes_between c 0 core.released) (bytes_between c core.released next.released) put added)
+
+-- where the core stands after a round whose put failed
+abbrev pub broken_core : {S : Type 0} (c : Course) (core : CoreState) (round : Parts) (holds : S → List ℕ → Type 0) (old new : S) → HasBrokenRound c core round holds old new → CoreState
+broken_core c core round holds old new r = after_event (plan_of c) r.next (Break r.breaks.count r.breaks.done)
+
+-- after a put that failed
+pub has_stopped : (c : Course) (core : CoreState) (round : Parts) (parts : Parts) {S : Type 0} (holds : S → List ℕ → Type 0) (first old new : S) → Adds holds first old (bytes_between c 0 core.released)
+    → (r : HasBrokenRound c core round holds old new) → IsReadOut c (broken_core c core round holds old new r) parts → HasStopped c parts holds first new
+has_stopped c core round parts holds first old new put r out = record {
+  stopped = record { core = out.last; broken = out.broken; closed = out.closed; taken = out.taken };
+  put =
+      let b = r.breaks in
+      let last = broken_core c core round holds old new r in
+      let added : Adds holds old new (bytes_between c core.released last.released) = subst (λ n. Adds holds old new (bytes_between c n last.released)) r.released b.put in
+      let appended : parts.hub.appended ≡ last.appended = (λ i. (out.broken.follows.stands i).appended) ∙ out.same in
+      record {
+        front = bytes_between c 0 last.released;
+        is_front = subst (λ n. IsPrefix (bytes_between c 0 last.released) (released_by c n)) (sym appended) (released_front c last out.broken.follows.course b.broken.follows.sound b.broken.there);
+        added = put_then c core last holds first old new (omega (arith, r.released)) put added;
+      };
+}
 
 -- between two rounds once more
 pub on_then : (c : Course) (core next : CoreState) (parts : Parts) → IsIdle c next parts → {S : Type 0} (holds : S → List ℕ → Type 0) (first old new : S) → core.released ≤ next.released → Adds holds first old (bytes_between c 0 core.released)
@@ -148,17 +154,8 @@ closes_broken c core parts b opened =
     let f = b.follows in
     let open' : core.closed ≡ false = sym (λ i. (f.stands i).closed) ∙ opened in
     record {
-      follows = record {
-        course = f.course;
-        stands = ap with_close f.stands;
-        approved = f.approved;
-        sound = event_IsSound (plan_of c) core Close (is_plan c f.course) f.sound (open', inr b.failed);
-        reader = f.reader;
-        replays = f.replays;
-        seen = f.seen;
-        made = f.made;
-        size = f.size;
-      };
+      follows = follows_on c core parts.hub parts.replica f core.appended true core.failed core.released (with_close parts.hub) (ap with_close f.stands)
+          (event_IsSound (plan_of c) core Close (is_plan c f.course) f.sound (open', inr b.failed));
       end = b.end;
       issued = b.issued;
       released = b.released;

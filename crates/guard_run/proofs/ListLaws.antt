@@ -1,8 +1,8 @@
 -- Lists that rise, and parts of them.
-use Rattle.std.proofs.Common.{◌≡◌, ℕ, zero, suc, ◌+◌, ◌<◌, ◌≤◌, Bool, true, false, cond, List, [], ◌∷◌, ◌++◌, length, take, drop, map, refl, sym, ap, subst, ◌∙◌, arith, length-append, take-append-drop}
+use Rattle.std.proofs.Common.{◌≡◌, ℕ, zero, suc, ◌+◌, ◌<◌, ◌≤◌, Bool, true, false, cond, List, [], ◌∷◌, ◌++◌, length, take, drop, map, refl, sym, ap, subst, ◌∙◌, arith}
 use Rattle.std.specs.Prelude.{nat_lt, filter, slice_index}
 use Rattle.std.specs.List.{All}
-use Rattle.std.proofs.lemmas.List.{length-map, take-append-le}
+use Rattle.std.proofs.lemmas.List.{length-map}
 use Rattle.std.proofs.lemmas.List.Elements.{All-tail, All-head, All-weaker, filter_passes}
 use Rattle.list_laws.specs.Prefix.{IsPrefix}
 use Rattle.analysis_model.specs.Job.{before_step}
@@ -123,16 +123,6 @@ before-long bound (suc k) (byte ∷ sent) le all =
     let is : nat_lt byte.0 bound ≡ true = grind (arith, lt) in
     let more : k ≤ length (before_step bound sent) = before-long bound k sent (omega (arith, le)) (All-tail (λ (byte : ℕ × ℕ). byte.0 < bound) byte (take k sent) all) in
     subst (λ b. suc k ≤ length (cond b (byte ∷ before_step bound sent) (before_step bound sent))) (sym is) (omega (arith, more))
-
--- a front of a list, and the list, have the same first ones
-pub front-take : {X : Type 0} (k : ℕ) (front whole : List X) → IsPrefix front whole → k ≤ length front → take k front ≡ take k whole
-front-take k front whole is le = sym (take-append-le k front is.rest le) ∙ ap (take k) is.joined
-
-pub front-length : {X : Type 0} (front whole : List X) → IsPrefix front whole → length front ≤ length whole
-front-length front whole is = omega (arith, ap length is.joined, length-append front is.rest)
-
-pub take_IsPrefix : {X : Type 0} (k : ℕ) (xs : List X) → IsPrefix (take k xs) xs
-take_IsPrefix k xs = record { rest = drop k xs; joined = take-append-drop k xs }
 
 -- a list of one
 pub single : (xs : List ℕ) → length xs ≡ 1 → xs ≡ slice_index xs 0 ∷ []

@@ -2,10 +2,10 @@
 use Rattle.std.proofs.Common.{◌≡◌, ◌⊎◌, inl, inr, ℕ, zero, suc, ◌+◌, ◌-◌, ◌<◌, ◌≤◌, true, false, cond, List, [], ◌∷◌, ◌++◌, length, take, drop, Option, Some, None, refl, sym, ap, subst, ◌∙◌, arith, take-append-drop}
 use Rattle.std.specs.Prelude.{nat_lt, min, slice_index, get_or, filter}
 use Rattle.std.specs.List.{All}
-use Rattle.std.proofs.lemmas.List.{map-append, length-map, drop-map, drop-drop, drop-take, length-drop, take_all, take-map, get_or-map, get_or-drop, get_or_append_left, drop_all, length-take-le}
+use Rattle.std.proofs.lemmas.List.{map-append, length-map, drop-map, drop-drop, drop-take, length-drop, take_all, take-take, length-take, take-map, get_or-map, get_or-drop, get_or_append_left, drop_all, length-take-le}
 use Rattle.std.proofs.lemmas.List.Elements.{All-weaker, All-filter, All-drop, All-get_or, All-from_get_or, All-map, All-head, All-tail, filter_passes}
 use Rattle.list_laws.specs.Prefix.{IsPrefix}
-use Rattle.list_laws.proofs.PrefixLaws.{IsPrefix-trans, IsPrefix-map}
+use Rattle.list_laws.proofs.PrefixLaws.{IsPrefix-trans, IsPrefix-map, IsPrefix-take, IsPrefix-length}
 use Rattle.analysis_model.specs.Job.{before_step}
 use Rattle.gate_core.specs.Core.{CoreState, Release, reached, IsSound, IsReleasable, IsRequired}
 use Rattle.gate_core.proofs.CoreLaws.{event_IsSound}
@@ -14,7 +14,7 @@ use Rattle.output_gate.proofs.GateLaws.{Climbs-take, Climbs-drop, filter-climbs,
 use Rattle.guard_run.specs.Course.{Course, IsCourse, run_of, log_of, output_of, stop_of, plan_of}
 use Rattle.guard_run.specs.Gates.{Gates, issued_by, kept, still_waiting}
 use Rattle.guard_run.specs.Runs.{with_released, bytes_between}
-use Rattle.guard_run.proofs.ListLaws.{steps_of, bytes_in, AllBelow, Climbs-front, behind-below, splits, split_IsPrefix, count-before, before-again, before-drop, before-long, front-take, front-length, filter-map-steps}
+use Rattle.guard_run.proofs.ListLaws.{steps_of, bytes_in, AllBelow, Climbs-front, behind-below, splits, split_IsPrefix, count-before, before-again, before-drop, before-long, filter-map-steps}
 use Rattle.guard_run.proofs.CourseLaws.{climbs, is_plan}
 use Rattle.guard_run.proofs.ItemLaws.{issued_IsPrefix}
 use Rattle.guard_run.proofs.IssueLaws.{issued_under}
@@ -28,8 +28,22 @@ before-take : (bound low high : ℕ) (sent : List (ℕ × ℕ)) → Climbs low (
 before-take bound low high sent climbs =
     let split = splits bound low high sent climbs in
     ap (λ n. take n sent) (count-before bound sent)
-    ∙ sym (front-take (length (before_step bound sent)) (before_step bound sent) sent (split_IsPrefix bound sent split) (omega arith))
+    ∙ sym (IsPrefix-take (length (before_step bound sent)) (before_step bound sent) sent (split_IsPrefix bound sent split) (omega arith))
     ∙ take_all (length (before_step bound sent)) (before_step bound sent) (omega arith)
+
+-- the output between two places, in other words
+between_is : (c : Course) (from count : ℕ) → bytes_between c from (from + count) ≡ take count (bytes_in (drop from (output_of c)))
+between_is c from count = ap bytes_in (drop-take from count (output_of c)) ∙ sym (take-map (λ (byte : ℕ × ℕ). byte.1) count (drop from (output_of c)))
+
+-- some first ones of the output between two places
+pub between-front : (c : Course) (from count : ℕ) (front : List ℕ) → IsPrefix front (bytes_between c from (from + count)) → (length front ≤ count) × (front ≡ bytes_between c from (from + length front))
+between-front c from count front is =
+    let rest = bytes_in (drop from (output_of c)) in
+    let of_rest : IsPrefix front (take count rest) = subst (IsPrefix front) (between_is c from count) is in
+    let short : length front ≤ count = omega (arith, IsPrefix-length front (take count rest) of_rest, length-take count rest) in (
+      short,
+      sym (take_all (length front) front (omega arith)) ∙ IsPrefix-take (length front) front (take count rest) of_rest (omega arith) ∙ take-take (length front) count rest short ∙ sym (between_is c from (length front)),
+    )
 
 -- behind it nothing is below the bound
 none-behind : (bound low high : ℕ) (sent : List (ℕ × ℕ)) → Climbs low (steps_of sent) high → before_step bound (drop (count_below bound (steps_of sent)) sent) ≡ []
@@ -72,7 +86,7 @@ module _ (c : Course) (is : IsCourse c) (from : Option ℕ) (a : ℕ) where
 
   kept_short_by : (o : Option ℕ) → length (kept o (issued_by c a)) ≤ length (issued_by c a)
   kept_short_by None = omega arith
-  kept_short_by (Some step) = front-length (before_step step (issued_by c a)) (issued_by c a) (split_IsPrefix step (issued_by c a) (splits step 0 (run_of c).steps (issued_by c a) issued_climbs))
+  kept_short_by (Some step) = IsPrefix-length (before_step step (issued_by c a)) (issued_by c a) (split_IsPrefix step (issued_by c a) (splits step 0 (run_of c).steps (issued_by c a) issued_climbs))
 
   kept_short : length (kept from (issued_by c a)) ≤ length (issued_by c a)
   kept_short = kept_short_by from
@@ -155,7 +169,7 @@ module _ (c : Course) (is : IsCourse c) (core : CoreState) (gate : GateState) (g
     put_is =
         ap (take count) g.bytes
         ∙ take-map (λ (byte : ℕ × ℕ). byte.1) count (still_waiting c core gate.from)
-        ∙ ap bytes_in (sym (drop-take core.released count all_kept) ∙ ap (drop core.released) (front-take (core.released + count) all_kept (output_of c) front room))
+        ∙ ap bytes_in (sym (drop-take core.released count all_kept) ∙ ap (drop core.released) (IsPrefix-take (core.released + count) all_kept (output_of c) front room))
 
     -- each of them may be released
     step_is : (byte : ℕ) → core.released ≤ byte → byte < core.released + count → slice_index (steps_of (output_of c)) byte ≡ slice_index gate.steps (byte - core.released)
@@ -181,7 +195,7 @@ module _ (c : Course) (is : IsCourse c) (core : CoreState) (gate : GateState) (g
       sound = fine;
       some = some;
       piece = omega (arith, count_below-within below gate.steps, g.few);
-      there = omega (arith, room, front-length all_kept (output_of c) front, length-map (output_of c) (λ (byte : ℕ × ℕ). byte.0));
+      there = omega (arith, room, IsPrefix-length all_kept (output_of c) front, length-map (output_of c) (λ (byte : ℕ × ℕ). byte.0));
       shown = λ byte from to.
           let here = step_is byte from to in
           let place : byte - core.released < count_below below gate.steps = omega (arith, from, to) in
@@ -222,7 +236,7 @@ module _ (c : Course) (is : IsCourse c) (core : CoreState) (gate : GateState) (g
   -- after the gate withheld from the stop on
   module _ (sound : IsSound (plan_of c) core) where
     kept_first : AllBelow (stop_of c) (take core.released all_kept)
-    kept_first = subst (AllBelow (stop_of c)) (sym (front-take core.released all_kept (output_of c) front g.there)) (released_below c core sound)
+    kept_first = subst (AllBelow (stop_of c)) (sym (IsPrefix-take core.released all_kept (output_of c) front g.there)) (released_below c core sound)
 
     kept_again : before_step (stop_of c) all_kept ≡ before_step (stop_of c) (issued_by c core.appended)
     kept_again = by gate.from g.withheld
@@ -238,7 +252,7 @@ module _ (c : Course) (is : IsCourse c) (core : CoreState) (gate : GateState) (g
         ∙ before-drop (stop_of c) core.released all_kept kept_first
         ∙ ap (drop core.released) kept_again
 
-    from_is : least_from gate.from (stop_of c) ≡ stop_of c
+    pub from_is : least_from gate.from (stop_of c) ≡ stop_of c
     from_is = by gate.from g.withheld
       where
         by : (o : Option ℕ) → (o ≡ None) ⊎ (o ≡ Some (stop_of c)) → least_from o (stop_of c) ≡ stop_of c

@@ -1,7 +1,8 @@
 -- A replica that takes a record stands where the core's events lead.
-use Rattle.std.proofs.Common.{◌≡◌, ℕ, zero, suc, ◌+◌, ◌*◌, ◌<◌, ◌≤◌, true, List, [], ◌∷◌, ◌++◌, length, take, reverse, Option, Some, None, refl, sym, ap, subst, ◌∙◌, arith}
+use Rattle.std.proofs.Common.{◌≡◌, ℕ, suc, ◌+◌, ◌*◌, ◌<◌, ◌≤◌, Bool, true, List, [], ◌∷◌, length, take, reverse, Some, None, refl, sym, ap, subst, ◌∙◌, arith}
 use Rattle.std.specs.Prelude.{min, slice_index, slice_set, slice_get}
 use Rattle.std.proofs.lemmas.List.{reverse-append}
+use Rattle.list_laws.proofs.PrefixLaws.{take-next}
 use Rattle.run_events.specs.declared.event.Event.{Event}
 use Rattle.run_events.specs.declared.record.Record.{Record}
 use Rattle.machine_model.specs.Replay.{shown_back, first_fault_back, is_taken}
@@ -24,13 +25,13 @@ use Rattle.guard_run.specs.Verdicts.{verdict_from}
 use Rattle.guard_run.proofs.CourseLaws.{front_fits, front_shows, reach_less, verdict_seen, is_plan}
 use Rattle.guard_run.proofs.ItemLaws.{each_taken}
 
-taken-more : {X : Type 0} (k : ℕ) (xs : List X) (x : X) → slice_get xs k ≡ Some x → take (suc k) xs ≡ take k xs ++ x ∷ []
-taken-more k [] x is = cc
-taken-more zero (y ∷ xs) x is = ap (λ y. y ∷ []) (some_same y x is)
-  where
-    some_same : {X : Type 0} (a b : X) → ◌≡◌ {A = Option X} (Some a) (Some b) → a ≡ b
-    some_same a b e = cc
-taken-more (suc k) (y ∷ xs) x is = ap (λ l. y ∷ l) (taken-more k xs x is)
+-- it follows a core as well in which other records were appended, or that was closed, has failed or released otherwise
+pub follows_on : (c : Course) (core : CoreState) (before : HubState) (replica : Replica) → Follows c core before replica → (appended : ℕ) (closed failed : Bool) (released : ℕ) (hub : HubState)
+    → hub ≡ hub_of (plan_of c) (record core { appended = appended; closed = closed; failed = failed; released = released }) (verdict_of c (taken_by core) ∷ [])
+    → IsSound (plan_of c) (record core { appended = appended; closed = closed; failed = failed; released = released })
+    → Follows c (record core { appended = appended; closed = closed; failed = failed; released = released }) hub replica
+follows_on c core before replica f appended closed failed released hub stands sound =
+    record { course = f.course; stands = stands; approved = f.approved; sound = sound; reader = f.reader; replays = f.replays; seen = f.seen; made = f.made; size = f.size }
 
 pub set_one : (xs : List ℕ) (y : ℕ) → length xs ≡ 1 → slice_index (slice_set xs 0 y) 0 ≡ y
 set_one [] y one = absurd (omega (arith, one))
@@ -50,7 +51,7 @@ module _ (c : Course) (core : CoreState) (hub : HubState) (replica : Replica) (f
   pub longer : reverse (take (taken_by core + 1) (log_of c)) ≡ item ∷ reverse (take (taken_by core) (log_of c))
   longer =
       ap (λ n. reverse (take n (log_of c))) (let e : taken_by core + 1 ≡ suc (taken_by core) = omega arith in e)
-      ∙ ap reverse (taken-more (taken_by core) (log_of c) item law.1)
+      ∙ ap reverse (take-next (taken_by core) (log_of c) item law.1)
       ∙ reverse-append (take (taken_by core) (log_of c)) (item ∷ [])
 
   pub fits : first_fault_back c.start (item ∷ reverse (take (taken_by core) (log_of c))) ≡ None

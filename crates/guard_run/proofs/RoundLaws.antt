@@ -1,8 +1,8 @@
 -- A round of turns, where the core stands.
-use Rattle.std.proofs.Common.{◌≡◌, ◌⊎◌, inl, inr, ℕ, ◌+◌, ◌-◌, ◌<◌, Bool, true, false, cond, List, length, refl, sym, ap, subst, ◌∙◌, arith}
+use Rattle.std.proofs.Common.{◌≡◌, ◌⊎◌, inl, inr, ℕ, ◌+◌, ◌-◌, ◌<◌, true, false, cond, List, length, refl, sym, ap, subst, ◌∙◌, arith, true≢false}
 use Rattle.std.specs.Prelude.{min, slice_index}
 use Rattle.std.proofs.lemmas.List.{length-drop}
-use Rattle.after_edge.specs.Sink.{Adds, AddsPart}
+use Rattle.after_edge.specs.Sink.{Adds}
 use Rattle.machine_model.specs.Items.{items}
 use Rattle.gate_core.specs.Core.{CoreState, Append, Close, after_event, reached}
 use Rattle.gate_core.specs.Hub.{HubState}
@@ -99,12 +99,9 @@ caught_up_by c core parts r Took hub replica turned = by r.how
     by (inr (closed, taken)) = absurd (omega (arith, taken, turned.0))
 caught_up_by c core parts r Empty hub replica turned = absurd (by r.how)
   where
-    true_false : (b : Bool) → b ≡ true → b ≡ false → ⊥
-    true_false b yes' no' = let both : ◌≡◌ true false = sym yes' ∙ no' in cc
-
     by : ((core.closed ≡ false) × (r.next.closed ≡ false) × (core.appended < length (log_of c)) × (r.next.appended ≡ core.appended + 1) × (taken_by r.next ≡ core.appended)) ⊎ ((r.next.closed ≡ true) × (taken_by r.next ≡ r.next.appended)) → ⊥
     by (inl (was_open, is_open, more, appended, taken)) = omega (arith, appended, taken, turned.1.all)
-    by (inr (closed, taken)) = true_false r.next.closed closed turned.0
+    by (inr (closed, taken)) = true≢false (sym closed ∙ turned.0)
 caught_up_by c core parts r Closed hub replica turned = record {
   next = r.next;
   at = record {
@@ -140,12 +137,4 @@ module _ (c : Course) (core : CoreState) (turn : Turn) (before parts after : Par
         by (inr (took, less)) = inr (took, omega (arith, less, left_is c core before idle.at, left_is c (with_released up.next r.count) after r.at))
 
     pub broken : HasBroken c up.next after holds old new → HasBrokenRound c core after holds old new
-    broken r = record {
-      next = up.next;
-      count = r.count;
-      more = omega (arith, r.more, up.released);
-      within = r.within;
-      might = r.might;
-      put = subst (λ n. AddsPart holds old new (bytes_between c n r.count)) up.released r.put;
-      broken = r.broken;
-    }
+    broken r = record { next = up.next; released = up.released; breaks = r }

@@ -1,18 +1,21 @@
 -- A turn of the gate, where the core stands.
-use Rattle.std.proofs.Common.{◌≡◌, inr, ℕ, ◌+◌, ◌<◌, ◌≤◌, true, false, List, take, refl, sym, ap, subst, ◌∙◌, arith, ◌⊎◌, inl, Bool, Option, Some, None, zero, suc, ◌-◌}
+use Rattle.std.proofs.Common.{◌≡◌, inr, ℕ, ◌+◌, ◌<◌, ◌≤◌, true, false, List, length, take, refl, sym, ap, subst, ◌∙◌, arith, ◌⊎◌, inl, Some, zero, suc, ◌-◌, true≢false}
 use Rattle.std.specs.Prelude.{min, nat_lt, slice_index}
 use Rattle.after_edge.specs.Sink.{Adds, AddsPart}
 use Rattle.after_edge.proofs.SinkLaws.{Adds-same, AddsPart-same}
 use Rattle.gate_core.specs.declared.verdict.Verdict.{Verdict}
-use Rattle.gate_core.specs.Core.{CoreState, Release, May, IsReleasable, reached, IsSound}
+use Rattle.gate_core.specs.Core.{CoreState, Release, Break, May, IsReleasable, reached, IsSound}
 use Rattle.gate_core.specs.Hub.{verdict_at}
+use Rattle.gate_core.proofs.CoreLaws.{event_IsSound}
 use Rattle.output_gate.specs.Gate.{GateState, count_below, least_from, with_failure, with_release, with_withheld}
 use Rattle.guard_run.specs.declared.parts.Parts.{Parts}
 use Rattle.guard_run.specs.Course.{Course, stop_of, plan_of}
 use Rattle.guard_run.specs.Gates.{Gates}
-use Rattle.guard_run.specs.Replicas.{Follows, taken_by, verdict_of}
-use Rattle.guard_run.specs.Runs.{IsAt, HasReleased, HasBroken, with_released}
-use Rattle.guard_run.proofs.ReleaseLaws.{after_release, put_is, releasable, release_sound, none_waits, none_withheld, after_withhold, within_issued}
+use Rattle.guard_run.specs.Replicas.{taken_by, verdict_of}
+use Rattle.guard_run.specs.Runs.{IsAt, HasReleased, HasBroken, bytes_between, with_released}
+use Rattle.guard_run.proofs.CourseLaws.{is_plan}
+use Rattle.guard_run.proofs.ReplicaLaws.{follows_on}
+use Rattle.guard_run.proofs.ReleaseLaws.{after_release, put_is, releasable, release_sound, none_waits, none_withheld, after_withhold, from_is, within_issued, between-front}
 
 -- the same run with another gate
 abbrev pub with_gate : Parts → GateState → Parts
@@ -24,20 +27,6 @@ module _ (c : Course) (core : CoreState) (parts : Parts) (at : IsAt c core parts
 
   pub looked : verdict_at parts.hub 0 ≡ verdict_of c (taken_by core)
   looked = ap (λ h. verdict_at h 0) at.follows.stands
-
-  -- a failed core is as sound
-  pub failed_sound : IsSound (plan_of c) (record core { failed = true })
-  failed_sound =
-      let s = at.follows.sound in
-      record {
-        taken = s.taken;
-        approved = s.approved;
-        appended = s.appended;
-        readers = λ reader less. record { taken = (s.readers reader less).taken; room = (s.readers reader less).room; limit = (s.readers reader less).limit; seen = (s.readers reader less).seen };
-        released = s.released;
-        shown = λ byte less. record { reached = (s.shown byte less).reached; approved = (s.shown byte less).approved };
-        closed = λ is. inr refl;
-      }
 
   module _ (verdict : Verdict) (is : verdict ≡ verdict_of c (taken_by core)) where
     abbrev count : ℕ
@@ -55,13 +44,8 @@ module _ (c : Course) (core : CoreState) (parts : Parts) (at : IsAt c core parts
     pub passed_low : (gate : GateState) → gate ≡ with_release parts.gate (count_below verdict.approved parts.gate.steps) → gate.passed ≤ verdict.approved
     passed_low gate made = omega (arith, ap (λ (g : GateState). g.passed) made, gates_now.passed, approves)
 
-    follows_now : Follows c (with_released core (core.released + count)) parts.hub parts.replica
-    follows_now =
-        let f = at.follows in
-        record { course = f.course; stands = f.stands; approved = f.approved; sound = sound_now; reader = f.reader; replays = f.replays; seen = f.seen; made = f.made; size = f.size }
-
     at_now : (gate : GateState) → Gates c (with_released core (core.released + count)) gate → IsAt c (with_released core (core.released + count)) (with_gate parts gate)
-    at_now gate gates = record { follows = follows_now; rest = at.rest; gates = gates; end = at.end; sound = at.sound }
+    at_now gate gates = record { follows = follows_on c core parts.hub parts.replica at.follows core.appended core.closed core.failed (core.released + count) parts.hub at.follows.stands sound_now; rest = at.rest; gates = gates; end = at.end; sound = at.sound }
 
     -- what the replica says in numbers
     refuses_at : verdict.refused ≡ true → verdict.approved ≡ stop_of c
@@ -93,13 +77,6 @@ module _ (c : Course) (core : CoreState) (parts : Parts) (at : IsAt c core parts
             let all : count_below verdict.approved parts.gate.steps ≡ (core.released + count_below verdict.approved parts.gate.steps) - core.released = omega arith in
             inr (subst (λ m. IsReleasable (plan_of c) core m) all (releasable c at.follows.course core parts.gate at.gates verdict.approved approves at.follows.sound at.sound (omega (arith, some))))
 
-    true_false : (b : Bool) → b ≡ true → b ≡ false → ⊥
-    true_false b is not = let both : ◌≡◌ true false = sym is ∙ not in cc
-
-    least_stop : (o : Option ℕ) → ((o ≡ None) ⊎ (o ≡ Some (stop_of c))) → least_from o (stop_of c) ≡ stop_of c
-    least_stop o (inl none) = ap (λ o. least_from o (stop_of c)) none
-    least_stop o (inr some) = ap (λ o. least_from o (stop_of c)) some ∙ (let e : min (stop_of c) (stop_of c) ≡ stop_of c = omega arith in e)
-
     module _ {S : Type 0} (holds : S → List ℕ → Type 0) (old new : S) where
       -- nothing is refused
       pub released_on : verdict.refused ≡ false → Adds holds old new (take (count_below verdict.approved parts.gate.steps) parts.gate.bytes)
@@ -108,7 +85,7 @@ module _ (c : Course) (core : CoreState) (parts : Parts) (at : IsAt c core parts
         count = core.released + count;
         exact = exact_count;
         event = event_is;
-        refused = λ refused. absurd (true_false verdict.refused (ap (λ (v : Verdict). v.refused) is ∙ refused) passes);
+        refused = λ refused. absurd (true≢false (sym refused ∙ ap (λ (v : Verdict). v.refused) (sym is) ∙ passes));
         more = omega arith;
         at = at_now (with_release parts.gate count) gates_now;
         put = Adds-same holds old new (put_is c at.follows.course core parts.gate at.gates verdict.approved approves) added;
@@ -123,7 +100,7 @@ module _ (c : Course) (core : CoreState) (parts : Parts) (at : IsAt c core parts
         count = core.released + count;
         exact = exact_count;
         event = event_is;
-        refused = λ _. ap Some (ap (least_from parts.gate.from) (refuses_at refused) ∙ least_stop parts.gate.from at.gates.withheld);
+        refused = λ _. ap Some (ap (least_from parts.gate.from) (refuses_at refused) ∙ from_is c at.follows.course core parts.gate at.gates at.follows.sound);
         more = omega arith;
         at = at_now (with_withheld (with_release parts.gate count) verdict.approved)
             (subst (λ step. Gates c (with_released core (core.released + count)) (with_withheld (with_release parts.gate count) step)) (sym (refuses_at refused))
@@ -133,20 +110,26 @@ module _ (c : Course) (core : CoreState) (parts : Parts) (at : IsAt c core parts
       }
 
       -- the put failed
-      pub broken_off : (gate : GateState) → gate ≡ with_failure parts.gate (count_below verdict.approved parts.gate.steps) → AddsPart holds old new (take (count_below verdict.approved parts.gate.steps) parts.gate.bytes)
+      pub broken_off : (gate : GateState) → gate ≡ with_failure parts.gate (count_below verdict.approved parts.gate.steps) → 1 ≤ count_below verdict.approved parts.gate.steps → AddsPart holds old new (take (count_below verdict.approved parts.gate.steps) parts.gate.bytes)
           → HasBroken c core (with_gate parts gate) holds old new
-      broken_off gate made added = record {
-        count = core.released + count;
-        more = omega arith;
-        within = within_issued c at.follows.course core parts.gate at.gates verdict.approved approves;
-        might = sound_now;
-        put = AddsPart-same holds old new (put_is c at.follows.course core parts.gate at.gates verdict.approved approves) added;
-        broken = record {
-          follows = record { course = at.follows.course; stands = at.follows.stands; approved = at.follows.approved; sound = failed_sound; reader = at.follows.reader; replays = at.follows.replays; seen = at.follows.seen; made = at.follows.made; size = at.follows.size };
-          end = at.end;
-          issued = ap (λ (g : GateState). g.issued) made ∙ at.gates.issued;
-          released = ap (λ (g : GateState). g.released) made ∙ at.gates.released;
-          there = omega (arith, within_issued c at.follows.course core parts.gate at.gates verdict.approved approves);
-          failed = refl;
-        };
-      }
+      broken_off gate made some added =
+          let plan = plan_of c in
+          let part : AddsPart holds old new (bytes_between c core.released (core.released + count)) = AddsPart-same holds old new (put_is c at.follows.course core parts.gate at.gates verdict.approved approves) added in
+          let front = between-front c core.released count part.front part.is_front in
+          let done = length part.front in
+          let may : May plan core (Break count done) = (releasable c at.follows.course core parts.gate at.gates verdict.approved approves at.follows.sound at.sound some, front.0) in
+          record {
+            count = count;
+            done = done;
+            may = may;
+            put = Adds-same holds old new front.1 part.added;
+            broken = record {
+              follows = follows_on c core parts.hub parts.replica at.follows core.appended core.closed true (core.released + done) parts.hub at.follows.stands
+                  (event_IsSound plan core (Break count done) (is_plan c at.follows.course) at.follows.sound may);
+              end = at.end;
+              issued = ap (λ (g : GateState). g.issued) made ∙ at.gates.issued;
+              released = omega (arith, ap (λ (g : GateState). g.released) made, at.gates.released);
+              there = omega (arith, front.0, within_issued c at.follows.course core parts.gate at.gates verdict.approved approves);
+              failed = refl;
+            };
+          }

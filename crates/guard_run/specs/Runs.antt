@@ -6,7 +6,7 @@ use Rattle.machine_model.specs.Image.{Image}
 use Rattle.machine_model.specs.State.{started}
 use Rattle.machine_model.specs.Items.{Item, items}
 use Rattle.analysis_model.specs.Made.{make_of}
-use Rattle.gate_core.specs.Core.{CoreState, Append, Close, Release, May, after_event, opening, IsSound}
+use Rattle.gate_core.specs.Core.{CoreState, Append, Close, Release, Break, May, after_event, opening}
 use Rattle.output_gate.specs.Gate.{count_below}
 use Rattle.guard_run.specs.declared.job.RunJob.{RunJob}
 use Rattle.guard_run.specs.declared.parts.Parts.{Parts}
@@ -37,7 +37,7 @@ abbrev pub IsOpened : Course → Parts → Type 0
 IsOpened c parts = IsAt c (opening (plan_of c)) parts
 
 -- some course and some state of the core are those of the run
-pub record IsUnderWay (parts : Parts) : Type 0 where
+pub record IsSoundRun (parts : Parts) : Type 0 where
   pub of : Course
   pub core : CoreState
   pub at : IsAt of core parts
@@ -92,23 +92,22 @@ pub record HasReleased {S : Type 0} (c : Course) (core : CoreState) (before afte
   pub put : Adds holds old new (bytes_between c core.released count)
   pub none : taken_by core ≡ core.appended → after.gate.steps ≡ []
 
--- what stands of a run whose put has failed
+-- what stands of a run whose put has failed; of that put the gate counts no byte as released
 pub record IsBroken (c : Course) (core : CoreState) (parts : Parts) : Type 0 where
   pub follows : Follows c core parts.hub parts.replica
   pub end : parts.end ≡ end_in (take core.appended (log_of c))
   pub issued : parts.gate.issued ≡ length (issued_by c core.appended)
-  pub released : parts.gate.released ≡ core.released
+  pub released : parts.gate.released ≤ core.released
   pub there : core.released ≤ length (issued_by c core.appended)
   pub failed : core.failed ≡ true
 
--- a put of the next bytes failed, all of which were issued and might have been released
+-- a put of bytes that may be released failed behind the first ones, which the sink got: a break of the core
 pub record HasBroken {S : Type 0} (c : Course) (core : CoreState) (after : Parts) (holds : S → List ℕ → Type 0) (old new : S) : Type 0 where
   pub count : ℕ
-  pub more : core.released ≤ count
-  pub within : count ≤ length (issued_by c core.appended)
-  pub might : IsSound (plan_of c) (with_released core count)
-  pub put : AddsPart holds old new (bytes_between c core.released count)
-  pub broken : IsBroken c (record core { failed = true }) after
+  pub done : ℕ
+  pub may : May (plan_of c) core (Break count done)
+  pub put : Adds holds old new (bytes_between c core.released (core.released + done))
+  pub broken : IsBroken c (after_event (plan_of c) core (Break count done)) after
 
 -- between two rounds of turns: the replica has taken all that was appended, and no byte waits
 pub record IsIdle (c : Course) (core : CoreState) (parts : Parts) : Type 0 where
@@ -128,15 +127,11 @@ pub record HasPassed {S : Type 0} (c : Course) (core : CoreState) (last : Turn) 
   pub put : Adds holds old new (bytes_between c core.released next.released)
   pub goes : ((last ≡ turn.Closed) × (next.closed ≡ true)) ⊎ ((last ≡ turn.Took) × (turns_left after < turns_left before))
 
--- a round whose put failed: some of the next bytes were put, all of which might have been released
+-- a round whose put failed, behind the turns of the recorder and the replica
 pub record HasBrokenRound {S : Type 0} (c : Course) (core : CoreState) (after : Parts) (holds : S → List ℕ → Type 0) (old new : S) : Type 0 where
   pub next : CoreState
-  pub count : ℕ
-  pub more : core.released ≤ count
-  pub within : count ≤ length (issued_by c next.appended)
-  pub might : IsSound (plan_of c) (with_released next count)
-  pub put : AddsPart holds old new (bytes_between c core.released count)
-  pub broken : IsBroken c (record next { failed = true }) after
+  pub released : next.released ≡ core.released
+  pub breaks : HasBroken c next after holds old new
 
 -- the log was closed where it stood
 pub record IsShut (c : Course) (core : CoreState) (after : Parts) : Type 0 where

@@ -10,7 +10,7 @@ ghost use Rattle.guard_run.specs.Closings.{ClosesFront, ClosesWhole};
 ghost use Rattle.guard_run.specs.Gates.{IsMarked, with_item};
 ghost use Rattle.guard_run.specs.Sources.{item_of};
 ghost use Rattle.guard_run.specs.Course.{Course};
-ghost use Rattle.guard_run.specs.Runs.{IsAt, IsEnded, IsOpened, IsStopped, IsUnderWay, Records, HasReleased, HasBroken, course_of};
+ghost use Rattle.guard_run.specs.Runs.{IsAt, IsEnded, IsOpened, IsSoundRun, IsStopped, Records, HasReleased, HasBroken, course_of};
 
 use crate::closing::{Closing, Ending};
 use crate::job::RunJob;
@@ -71,7 +71,7 @@ impl Parts {
     // A turn of the recorder: its next record is appended where the log has room, and the gate for its byte; else it
     // waits. Behind the last record the log is closed.
     pub(crate) fn append_next(&mut self) -> Recorded
-        requires { IsUnderWay self.old }
+        requires { IsSoundRun self.old }
         ensures { (c : Course) (core : CoreState) → IsAt c core self.old → Records c core result self.old self.new }
     {
         if self.hub.is_closed() {
@@ -99,7 +99,7 @@ impl Parts {
 
     // A turn of the gate: it releases below what the replica approves, and withholds from there on where it refuses.
     pub(crate) fn release<O: Sink>(&mut self, out: &mut O) -> Result<(), SinkFault>
-        requires { IsUnderWay self.old }
+        requires { IsSoundRun self.old }
         ensures ok { OnOk result ((c : Course) (core : CoreState) → IsAt c core self.old → HasReleased c core self.old self.new O.holds out.old out.new) }
         ensures err { OnErr result ((c : Course) (core : CoreState) → IsAt c core self.old → HasBroken c core self.new O.holds out.old out.new) }
         ensures cause { OnErr result (Rose (O.faults out.old) (O.faults out.new)) }

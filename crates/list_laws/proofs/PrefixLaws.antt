@@ -1,6 +1,8 @@
 -- Fronts of lists, joined and compared.
-use Rattle.std.proofs.Common.{List, [], ◌++◌, map, refl, sym, ◌∙◌, ap, append_assoc, append-nil}
-use Rattle.std.proofs.lemmas.List.{map-append}
+use Rattle.std.proofs.Common.{◌≡◌, ℕ, zero, suc, ◌≤◌, List, [], ◌∷◌, ◌++◌, length, take, drop, map, Some, arith, refl, sym, ◌∙◌, ap, append_assoc, append-nil, length-append, take-append-drop}
+use Rattle.std.specs.Prelude.{slice_get}
+use Rattle.std.specs.Option.{option_to_list}
+use Rattle.std.proofs.lemmas.List.{map-append, take-append-le}
 use Rattle.list_laws.specs.Prefix.{IsPrefix}
 
 -- a list is a front of itself
@@ -30,3 +32,21 @@ IsPrefix-trans {a = a} p q = record { rest = p.rest ++ q.rest; joined = sym (app
 -- the images of a front are a front of the images
 pub IsPrefix-map : {X Y : Type 0} (f : X → Y) {front whole : List X} → IsPrefix front whole → IsPrefix (map f front) (map f whole)
 IsPrefix-map f {front = front} p = record { rest = map f p.rest; joined = sym (map-append f front p.rest) ∙ ap (map f) p.joined }
+
+-- the first so many of a list are a front of it
+pub take_IsPrefix : {X : Type 0} (k : ℕ) (xs : List X) → IsPrefix (take k xs) xs
+take_IsPrefix k xs = record { rest = drop k xs; joined = take-append-drop k xs }
+
+-- a front is no longer than the whole
+pub IsPrefix-length : {X : Type 0} (front whole : List X) → IsPrefix front whole → length front ≤ length whole
+IsPrefix-length front whole p = omega (arith, ap length p.joined, length-append front p.rest)
+
+-- a front and the whole have the same first ones
+pub IsPrefix-take : {X : Type 0} (k : ℕ) (front whole : List X) → IsPrefix front whole → k ≤ length front → take k front ≡ take k whole
+IsPrefix-take k front whole p le = sym (take-append-le k front p.rest le) ∙ ap (take k) p.joined
+
+-- one item more of a list
+pub take-next : {X : Type 0} (k : ℕ) (xs : List X) (x : X) → slice_get xs k ≡ Some x → take (suc k) xs ≡ take k xs ++ x ∷ []
+take-next k [] x is = cc
+take-next zero (y ∷ xs) x is = ap (λ o. option_to_list o) is
+take-next (suc k) (y ∷ xs) x is = ap (λ l. y ∷ l) (take-next k xs x is)

@@ -1,5 +1,5 @@
 -- What a guest's file gives: where it starts, and the bytes that are put into RAM.
-use Rattle.std.specs.Prelude.{◌≡◌, ◌≤◌, ℕ, ◌*◌, Bool, true, List, [], ◌∷◌, length, replicate}
+use Rattle.std.specs.Prelude.{ℕ, ◌*◌, Bool, true, List, [], ◌∷◌, length, replicate}
 use Rattle.memory_map.specs.Ram.{InRam}
 use Rattle.memory_map.specs.declared.TheConstants.{RAM_START}
 use Rattle.rv_memory.specs.Ram.{filled}

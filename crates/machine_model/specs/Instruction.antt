@@ -1,4 +1,4 @@
--- The instructions that are built, as the manual's listing has them. (Unprivileged manual, 2.2 to 2.4 and chapter 24.)
+-- The instructions that are built, as the manual's listing has them. (Unprivileged manual, 2.2 to 2.4, 2.6 and chapter 24.)
 use Rattle.std.specs.Prelude.{ℕ, ◌+◌, ◌-◌, ◌*◌, ◌/◌, ◌%◌, ◌^◌, Bool, true, ◌&&◌, ◌==◌, nat_lt, List, [], ◌∷◌, Option, None, Some, if◌then◌else◌}
 
 -- the fields of a word

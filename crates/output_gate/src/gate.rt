@@ -97,6 +97,7 @@ impl OutputGate {
         ensures ok { OnOk result (Adds O.holds out.old out.new (take (count_below below self.old.steps) self.old.bytes)) }
         ensures err { OnErr result (AddsPart O.holds out.old out.new (take (count_below below self.old.steps) self.old.bytes)) }
         ensures cause { OnErr result (Rose (O.faults out.old) (O.faults out.new)) }
+        ensures some { OnErr result (1 ≤ count_below below self.old.steps) }
         ensures none { count_below below self.old.steps ≡ 0 → out.new ≡ out.old }
         ensures later { O.faults out.old ≤ O.faults out.new }
         ensures released { OnOk result (self.new ≡ with_release self.old (count_below below self.old.steps)) }

@@ -5,13 +5,13 @@ use Rattle.gate_core.specs.Hub.{HubState}
 use Rattle.guard_run.specs.Gates.{released_by}
 use Rattle.guard_run.proofs.EndLaws.{released_by_IsPrefix}
 use Rattle.guard_run.specs.Course.{released_bytes}
-use Rattle.after_cli.specs.Job.{course_of, cover_job, report_text}
+use Rattle.after_cli.specs.Job.{job_course, cover_job, report_text}
 use Rattle.after_cli.proofs.JobLaws.{text-cover_job, report-cover_job, has_course, whole_run}
 use Rattle.after_cli.proofs.running.run_job.Goals as goal
 
 pub returns-in-Err-ran-clause-end : goal.returns-in-Err-ran-clause-end
 returns-in-Err-ran-clause-end g c =
-    let of = course_of (cover_job c.args.file.items c.args.ram_kib c.args.limit) in
+    let of = job_course (cover_job c.args.file.items c.args.ram_kib c.args.limit) in
     let course = has_course c.args.file.items c.args.ram_kib c.args.limit c.requires.steps in
     let stopped = c.in-Err-ran.ensures.err of c.in-Ok.ensures in
     let count = c.run_turns-ran.new.parts.hub.appended in
@@ -28,16 +28,16 @@ returns-in-Err-ran-clause-end g c =
 
 pub tell-requires : goal.tell-requires
 tell-requires g c = record {
-  of = course_of (cover_job c.args.file.items c.args.ram_kib c.args.limit);
+  of = job_course (cover_job c.args.file.items c.args.ram_kib c.args.limit);
   course = has_course c.args.file.items c.args.ram_kib c.args.limit c.requires.steps;
-  whole = c.finish-closing.ensures.whole (course_of (cover_job c.args.file.items c.args.ram_kib c.args.limit)) (c.in-Ok-ran.ensures.ok (course_of (cover_job c.args.file.items c.args.ram_kib c.args.limit)) c.in-Ok.ensures).ended;
+  whole = c.finish-closing.ensures.whole (job_course (cover_job c.args.file.items c.args.ram_kib c.args.limit)) (c.in-Ok-ran.ensures.ok (job_course (cover_job c.args.file.items c.args.ram_kib c.args.limit)) c.in-Ok.ensures).ended;
 }
 
 pub returns-in-Ok-tell-clause-end : goal.returns-in-Ok-tell-clause-end
 returns-in-Ok-tell-clause-end g c =
-    let of = course_of (cover_job c.args.file.items c.args.ram_kib c.args.limit) in
+    let of = job_course (cover_job c.args.file.items c.args.ram_kib c.args.limit) in
     let course = has_course c.args.file.items c.args.ram_kib c.args.limit c.requires.steps in
-    let closed = c.finish-closing.ensures.whole (course_of (cover_job c.args.file.items c.args.ram_kib c.args.limit)) (c.in-Ok-ran.ensures.ok (course_of (cover_job c.args.file.items c.args.ram_kib c.args.limit)) c.in-Ok.ensures).ended in
+    let closed = c.finish-closing.ensures.whole (job_course (cover_job c.args.file.items c.args.ram_kib c.args.limit)) (c.in-Ok-ran.ensures.ok (job_course (cover_job c.args.file.items c.args.ram_kib c.args.limit)) c.in-Ok.ensures).ended in
     record {
       written = Adds-same g.O.Sink.holds c.args.out.now c.tell.new.out (text-cover_job c.args.file.items c.args.ram_kib c.args.limit)
           (Adds-then g.O.Sink.holds c.args.out.now c.run_turns-ran.new.out c.tell.new.out (released_bytes of) (report_text of) (c.in-Ok-ran.ensures.ok of c.in-Ok.ensures).put (c.in-Ok-tell.ensures.ok of course closed));
@@ -47,9 +47,9 @@ returns-in-Ok-tell-clause-end g c =
 
 pub returns-in-Err-tell-clause-end : goal.returns-in-Err-tell-clause-end
 returns-in-Err-tell-clause-end g c =
-    let of = course_of (cover_job c.args.file.items c.args.ram_kib c.args.limit) in
+    let of = job_course (cover_job c.args.file.items c.args.ram_kib c.args.limit) in
     let course = has_course c.args.file.items c.args.ram_kib c.args.limit c.requires.steps in
-    let closed = c.finish-closing.ensures.whole (course_of (cover_job c.args.file.items c.args.ram_kib c.args.limit)) (c.in-Ok-ran.ensures.ok (course_of (cover_job c.args.file.items c.args.ram_kib c.args.limit)) c.in-Ok.ensures).ended in
+    let closed = c.finish-closing.ensures.whole (job_course (cover_job c.args.file.items c.args.ram_kib c.args.limit)) (c.in-Ok-ran.ensures.ok (job_course (cover_job c.args.file.items c.args.ram_kib c.args.limit)) c.in-Ok.ensures).ended in
     let told = c.in-Err-tell.ensures.err of course closed in
     record {
       written = AddsPart-same g.O.Sink.holds c.args.out.now c.tell.new.out (text-cover_job c.args.file.items c.args.ram_kib c.args.limit)

@@ -2,7 +2,7 @@ use Rattle.std.proofs.Common.{◌≡◌, ◌⊎◌, inl, inr, true, sym, ◌∙�
 use Rattle.gate_core.specs.Core.{CoreState}
 use Rattle.guard_run.specs.declared.replica.Turn.{Turn}
 use Rattle.guard_run.specs.declared.replica.Turn.TheVariants.{Took, Closed}
-use Rattle.guard_run.proofs.EndLaws.{has_ended, has_stopped, on_then, put_then}
+use Rattle.guard_run.proofs.EndLaws.{broken_core, has_ended, has_stopped, on_then, put_then}
 use Rattle.guard_run.specs.Runs.{IsEnded, IsStopped}
 use Rattle.guard_run.proofs.ClosingLaws.{hub_closed, hub_read}
 use Rattle.guard_run.proofs.turns.run_turns.Given.{Over}
@@ -41,13 +41,13 @@ pub read_out-requires : goal.read_out-requires
 read_out-requires g c =
     let way = c.rounds.invariant.way c.requires.of c.requires.opened in
     let b = c.in-Err.ensures.err c.requires.of way.core way.idle in
-    record { of = c.requires.of; core = record b.next { failed = true }; broken = b.broken }
+    record { of = c.requires.of; core = broken_core c.requires.of way.core c.round.new.self g.O.Sink.holds c.rounds.out c.round.new.out b; broken = b.breaks.broken }
 
 pub returns-in-Err-clause-err : goal.returns-in-Err-clause-err
 returns-in-Err-clause-err g c = λ of opened.
     let way = c.rounds.invariant.way of opened in
     let b = c.in-Err.ensures.err of way.core way.idle in
-    has_stopped of way.core c.round.new.self c.read_out.new.self g.O.Sink.holds c.args.out.now c.rounds.out c.round.new.out way.put b (c.read_out.ensures of (record b.next { failed = true }) b.broken)
+    has_stopped of way.core c.round.new.self c.read_out.new.self g.O.Sink.holds c.args.out.now c.rounds.out c.round.new.out way.put b (c.read_out.ensures of (broken_core of way.core c.round.new.self g.O.Sink.holds c.rounds.out c.round.new.out b) b.breaks.broken)
 
 -- the state in which a run ended, or stopped
 at_end : (g : Over) (c : goal.In-Ok-Closed g) → IsEnded c.requires.of c.round.new.self

@@ -1,4 +1,4 @@
-use Rattle.std.proofs.Common.{◌≡◌, ◌⊎◌, inl, inr, Bool, true, false, sym, ◌∙◌, subst}
+use Rattle.std.proofs.Common.{◌≡◌, ◌⊎◌, inl, inr, sym, ◌∙◌, subst, true≢false}
 use Rattle.gate_core.specs.Core.{CoreState}
 use Rattle.gate_core.specs.Hub.{HubState}
 use Rattle.guard_run.specs.declared.replica.Replica.{Replica}
@@ -24,14 +24,11 @@ records-preserved c = record {
       record { last = after_turn of s.last; broken = takes_broken of s.last c.records.self s.broken c.turn.new.hub c.turn.new.self (c.in-Took.ensures of s.last s.broken.follows).1; same = s.same; closed = s.closed };
 }
 
-true_false : (b : Bool) → b ≡ true → b ≡ false → ⊥
-true_false b is not = let both : ◌≡◌ true false = sym is ∙ not in cc
-
 -- the last turn took none
 last_turn : (of : Course) (core : CoreState) (parts : Parts) (hub : HubState) (replica : Replica) (turn : Turn) → (s : IsShut of core parts) → Turned of s.last turn parts.hub hub parts.replica replica → (turn ≡ Empty) ⊎ (turn ≡ Closed)
     → IsReadOut of core (with_replica parts hub replica)
 last_turn of core parts hub replica turn s turned (inl empty) =
-    absurd (true_false s.last.closed s.closed (subst (λ t. Turned of s.last t parts.hub hub parts.replica replica) empty turned).0)
+    absurd (true≢false (sym s.closed ∙ (subst (λ t. Turned of s.last t parts.hub hub parts.replica replica) empty turned).0))
 last_turn of core parts hub replica turn s turned (inr closed) =
     let took_none = (subst (λ t. Turned of s.last t parts.hub hub parts.replica replica) closed turned).1 in
     record {

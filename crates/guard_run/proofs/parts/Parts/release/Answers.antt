@@ -6,7 +6,7 @@ use Rattle.guard_run.proofs.parts.Parts.release.Goals as goal
 
 pub returns-in-Err-clause-err : goal.returns-in-Err-clause-err
 returns-in-Err-clause-err g c = λ of core at.
-    broken_off of core c.args.self.now at c.look-verdict.result (c.look-verdict.ensures ∙ looked of core c.args.self.now at) g.O.Sink.holds c.args.out.now c.release.new.out c.release.new.self c.in-Err.ensures.failed c.in-Err.ensures.err
+    broken_off of core c.args.self.now at c.look-verdict.result (c.look-verdict.ensures ∙ looked of core c.args.self.now at) g.O.Sink.holds c.args.out.now c.release.new.out c.release.new.self c.in-Err.ensures.failed c.in-Err.ensures.some c.in-Err.ensures.err
 
 pub withhold-requires-clause-passed : goal.withhold-requires-clause-passed
 withhold-requires-clause-passed g c =
