@@ -4,37 +4,21 @@ use Rattle.std.specs.Prelude.{ℕ, ◌+◌, ◌%◌, ◌||◌, ◌==◌, List, [
 use Rattle.std.specs.Option.{option_map}
 use Rattle.std.specs.List.{filter_map, flat_map}
 use Rattle.memory_map.specs.declared.TheConstants.{SERIAL_DATA, POWER}
-use Rattle.run_events.specs.declared.access.Access.{Access}
-use Rattle.run_events.specs.declared.access.Access.TheVariants.{Quiet, Load, Store, Swap}
 use Rattle.run_events.specs.declared.event.Event.{Event}
-use Rattle.run_events.specs.declared.event.Event.TheVariants.{Dma, Irq, Trap, Exec}
 use Rattle.run_events.specs.declared.record.EndCause.{EndCause}
 use Rattle.run_events.specs.declared.record.EndCause.TheVariants.{Power, Limit, Stuck}
 use Rattle.run_events.specs.declared.record.Record.{Record}
 use Rattle.run_events.specs.declared.record.Record.TheVariants.{Reach, End}
-use Rattle.run_events.specs.Event.{step_of}
+use Rattle.run_events.specs.Event.{byte_stored, step_of}
 use Rattle.machine_model.specs.State.{State}
 use Rattle.machine_model.specs.Step.{step_from}
 
--- the low byte that an access stores at this address
-abbrev pub byte_stored_at : ℕ → Access → Option ℕ
-byte_stored_at register Quiet = None
-byte_stored_at register (Load address width value device mark) = None
-byte_stored_at register (Store address width value device) = if address == register then Some (value % 256) else None
-byte_stored_at register (Swap address old new) = None
-
-abbrev pub byte_sent_to : ℕ → Event → Option ℕ
-byte_sent_to register (Dma step address word mark) = None
-byte_sent_to register (Irq step pc cause next) = None
-byte_sent_to register (Trap step pc word cause value next) = None
-byte_sent_to register (Exec step pc word next result access told) = byte_stored_at register access
-
 -- the byte that goes out on the serial line, and the guest's status at the power register
 abbrev pub serial_byte : Event → Option ℕ
-serial_byte event = byte_sent_to SERIAL_DATA event
+serial_byte event = byte_stored SERIAL_DATA event
 
 abbrev pub power_status : Event → Option ℕ
-power_status event = byte_sent_to POWER event
+power_status event = byte_stored POWER event
 
 -- a run to its end: the events, the number of steps, and why it ended
 pub record Finished : Type 0 where

@@ -3,26 +3,12 @@ ghost use Rattle.std.specs.Prelude.{◌≡◌, ◌*◌, ◌<◌, ◌≤◌, ◌+
 ghost use Rattle.run_events.specs.declared.event.Event.{Event as Shown};
 ghost use Rattle.machine_model.specs.State.{State};
 ghost use Rattle.machine_model.specs.Step.{step_from};
-ghost use Rattle.machine_model.specs.Run.{power_status};
 ghost use Rattle.machine_model.specs.Replay.{events_below};
 ghost use Rattle.replayer.specs.Replays.{IsAt};
 
 use memory_map::POWER;
-use run_events::{Access, Event, Watcher};
+use run_events::Watcher;
 use rv_cpu::Cpu;
-
-// The guest's status, where an event is a power store.
-fn power_stored(event: &Event) -> Option<u8>
-    ensures { result ≡ power_status event.now }
-{
-    match event {
-        Event::Exec {
-            access: Access::Store { address, value, .. },
-            ..
-        } if *address == POWER => Some((*value % 0x100) as u8),
-        _ => None,
-    }
-}
 
 /// Executes the steps below a number and shows each, up to one that is not built or behind a power store. `power` is the
 /// status where the last step was one, and so is the answer.
@@ -46,7 +32,7 @@ pub fn run_to<W: Watcher>(cpu: &mut Cpu, power: Option<u8>, number: u32, seen: &
         }
         let event = cpu.step(0, None);
         seen.see(&event);
-        if let Some(status) = power_stored(&event) {
+        if let Some(status) = event.byte_stored(POWER) {
             return Some(status);
         }
     }

@@ -1,5 +1,5 @@
 -- What is said of single events.
-use Rattle.std.specs.Prelude.{◌≡◌, ℕ, ◌+◌, ◌*◌, ◌%◌, ◌^◌, ◌≤◌, true, false}
+use Rattle.std.specs.Prelude.{◌≡◌, ℕ, ◌+◌, ◌*◌, ◌%◌, ◌^◌, ◌≤◌, ◌==◌, true, false, Option, None, Some, if◌then◌else◌}
 use Rattle.memory_map.specs.Ram.{InRam, IsWidth}
 use Rattle.run_events.specs.declared.access.Access.{Access}
 use Rattle.run_events.specs.declared.access.Access.TheVariants.{Quiet, Load, Store, Swap}
@@ -12,6 +12,20 @@ step_of (Dma step address word mark) = step
 step_of (Irq step pc cause next) = step
 step_of (Trap step pc word cause value next) = step
 step_of (Exec step pc word next result access told) = step
+
+-- the low byte that an access stores at this address, if it stores there
+abbrev pub byte_stored_at : ℕ → Access → Option ℕ
+byte_stored_at place Quiet = None
+byte_stored_at place (Load address width value device mark) = None
+byte_stored_at place (Store address width value device) = if address == place then Some (value % 256) else None
+byte_stored_at place (Swap address old new) = None
+
+-- and that an event stores there
+abbrev pub byte_stored : ℕ → Event → Option ℕ
+byte_stored place (Dma step address word mark) = None
+byte_stored place (Irq step pc cause next) = None
+byte_stored place (Trap step pc word cause value next) = None
+byte_stored place (Exec step pc word next result access told) = byte_stored_at place access
 
 -- the word at this address stands in a RAM of this many KiB
 pub record IsWordInRam (ram_kib address : ℕ) : Type 0 where

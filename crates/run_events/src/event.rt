@@ -1,4 +1,7 @@
 //! Events, one a step.
+ghost use Rattle.std.specs.Prelude.{◌≡◌};
+ghost use Rattle.run_events.specs.Event as events;
+
 use crate::{Access, Told};
 
 /// What one step of the machine did, or one word that the disk wrote before a step.
@@ -38,4 +41,31 @@ pub enum Event {
         access: Access,
         told: Told,
     },
+}
+
+impl Event {
+    /// The step at which the event stands; a word from the disk stands before its step.
+    pub fn step(&self) -> u32
+        ensures { result ≡ events.step_of self.now }
+    {
+        match self {
+            Event::Dma { step, .. }
+            | Event::Irq { step, .. }
+            | Event::Trap { step, .. }
+            | Event::Exec { step, .. } => *step,
+        }
+    }
+
+    /// The low byte that the event stores at this byte address; none where it stores elsewhere or nothing.
+    pub fn byte_stored(&self, place: u32) -> Option<u8>
+        ensures { result ≡ events.byte_stored place self.now }
+    {
+        match self {
+            Event::Exec {
+                access: Access::Store { address, value, .. },
+                ..
+            } if *address == place => Some((*value % 0x100) as u8),
+            _ => None,
+        }
+    }
 }

@@ -2,13 +2,13 @@
 ghost use Rattle.std.specs.Prelude.{◌≡◌, ◌+◌, ◌<◌, List, IfSome};
 ghost use Rattle.run_events.specs.Event.{step_of};
 ghost use Rattle.run_events.specs.Record.{IsRecord};
-ghost use Rattle.machine_model.specs.Run.{byte_sent_to, serial_byte, power_status};
+ghost use Rattle.machine_model.specs.Run.{power_status};
 ghost use Rattle.machine_model.specs.Items.{items_behind};
 ghost use Rattle.rv_machine.specs.Recorder.{items_of, phase_behind};
 
 use crate::phase::Phase;
 use memory_map::{POWER, SERIAL_DATA};
-use run_events::{Access, EndCause, Event, Record};
+use run_events::{EndCause, Event, Record};
 
 /// A record, and the byte of output whose step it says is done.
 #[derive(Clone, Copy)]
@@ -17,47 +17,15 @@ pub struct Given {
     pub byte: Option<u8>,
 }
 
-// The low byte that an event stores at a device register.
-fn byte_stored(event: &Event, register: u32) -> Option<u8>
-    ensures { result ≡ byte_sent_to register event.now }
-{
-    match event {
-        Event::Exec {
-            access: Access::Store { address, value, .. },
-            ..
-        } if *address == register => Some((*value % 0x100) as u8),
-        _ => None,
-    }
-}
-
-// The byte that an event sends on the serial line.
-fn sent_byte(event: &Event) -> Option<u8>
-    ensures { result ≡ serial_byte event.now }
-{
-    byte_stored(event, SERIAL_DATA)
-}
-
 /// How a run goes on behind an event: the guest ends it by a store at the power register.
 pub fn phase_after(event: &Event) -> Phase
     ensures { result ≡ phase_behind (power_status event.now) }
 {
-    match byte_stored(event, POWER) {
+    match event.byte_stored(POWER) {
         Some(status) => Phase::Ending {
             cause: EndCause::Power { status },
         },
         None => Phase::Running,
-    }
-}
-
-// The step at which an event stands.
-fn step_number(event: &Event) -> u32
-    ensures { result ≡ step_of event.now }
-{
-    match event {
-        Event::Dma { step, .. }
-        | Event::Irq { step, .. }
-        | Event::Trap { step, .. }
-        | Event::Exec { step, .. } => *step,
     }
 }
 
@@ -68,8 +36,8 @@ pub fn given_behind(event: &Event) -> Option<Given>
     ensures items { items_of result ≡ items_behind event.now }
     ensures record { IfSome result (λ given. IsRecord given.item) }
 {
-    let byte = sent_byte(event);
-    let done = step_number(event) + 1;
+    let byte = event.byte_stored(SERIAL_DATA);
+    let done = event.step() + 1;
     if byte.is_some() || done % 256 == 0 {
         Some(Given {
             item: Record::Reach { step: done },
