@@ -1,11 +1,10 @@
-//! The function codes of the operations, both ways.
+//! The function codes of the operations.
 ghost use Rattle.std.specs.Prelude.{◌≡◌, ◌<◌};
 ghost use Rattle.rv_decode.specs.Words.{branch_code, load_code, store_code, immediate_code, register_code, register_code7, fence_code, atomic_code, csr_code};
 
 use crate::operations::{AtomicOp, BranchOp, CsrOp, FenceOp, ImmOp, LoadOp, RegOp, StoreOp};
 
-// The codes of the operations in their function fields.
-
+/// The funct3 of a branch.
 pub fn branch(op: BranchOp) -> u32
     ensures value { result ≡ branch_code op }
     ensures below { result < 8 }
@@ -20,6 +19,7 @@ pub fn branch(op: BranchOp) -> u32
     }
 }
 
+/// The funct3 of a load.
 pub fn load(op: LoadOp) -> u32
     ensures value { result ≡ load_code op }
     ensures below { result < 8 }
@@ -33,6 +33,7 @@ pub fn load(op: LoadOp) -> u32
     }
 }
 
+/// The funct3 of a store.
 pub fn store(op: StoreOp) -> u32
     ensures value { result ≡ store_code op }
     ensures below { result < 8 }
@@ -44,6 +45,7 @@ pub fn store(op: StoreOp) -> u32
     }
 }
 
+/// The funct3 of an operation on an immediate.
 pub fn immediate(op: ImmOp) -> u32
     ensures value { result ≡ immediate_code op }
     ensures below { result < 8 }
@@ -60,6 +62,7 @@ pub fn immediate(op: ImmOp) -> u32
     }
 }
 
+/// The funct3 of an operation on registers.
 pub fn register(op: RegOp) -> u32
     ensures value { result ≡ register_code op }
     ensures below { result < 8 }
@@ -76,6 +79,7 @@ pub fn register(op: RegOp) -> u32
     }
 }
 
+/// The funct7 of an operation on registers.
 pub fn register7(op: RegOp) -> u32
     ensures value { result ≡ register_code7 op }
     ensures below { result < 128 }
@@ -88,6 +92,7 @@ pub fn register7(op: RegOp) -> u32
     }
 }
 
+/// The funct3 of a fence.
 pub fn fence(op: FenceOp) -> u32
     ensures value { result ≡ fence_code op }
     ensures below { result < 8 }
@@ -98,6 +103,7 @@ pub fn fence(op: FenceOp) -> u32
     }
 }
 
+/// The upper five bits of the funct7 of an atomic.
 pub fn atomic(op: AtomicOp) -> u32
     ensures value { result ≡ atomic_code op }
     ensures below { result < 32 }
@@ -117,6 +123,7 @@ pub fn atomic(op: AtomicOp) -> u32
     }
 }
 
+/// The funct3 of a CSR instruction.
 pub fn csr(op: CsrOp) -> u32
     ensures value { result ≡ csr_code op }
     ensures below { result < 8 }

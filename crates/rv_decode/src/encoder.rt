@@ -7,7 +7,7 @@ ghost use Rattle.rv_decode.specs.Words.{encoded};
 use crate::codes;
 use crate::instruction::Instr;
 use crate::places::{
-    high_b, high_s, joined, joined_i, joined_u, low_b, low_s, operand, twelve, upper_j, upper_u,
+    joined, joined_b, joined_i, joined_s, joined_u, operand, twelve, upper_j, upper_u,
 };
 
 /// The word that spells an instruction. (Unprivileged manual, 2.2, 2.3 and chapter 24.)
@@ -20,6 +20,7 @@ pub fn encode(i: Instr) -> u32
     word_of(i)
 }
 
+// The word, a form at a time.
 #[tactic(auto, unfolding(crate::specs::Words::encoded))]
 fn word_of(i: Instr) -> u32
     requires { IsValid i }
@@ -30,38 +31,16 @@ fn word_of(i: Instr) -> u32
         Instr::Auipc { rd, imm } => joined_u(0x17, rd, upper_u(imm)),
         Instr::Jal { rd, imm } => joined_u(0x6f, rd, upper_j(imm)),
         Instr::Jalr { rd, rs1, imm } => joined_i(0x67, rd, 0, rs1, twelve(imm)),
-        Instr::Branch { op, rs1, rs2, imm } => joined(
-            0x63,
-            low_b(imm),
-            codes::branch(op),
-            rs1,
-            rs2,
-            high_b(imm),
-        ),
+        Instr::Branch { op, rs1, rs2, imm } => joined_b(0x63, codes::branch(op), rs1, rs2, imm),
         Instr::Load { op, rd, rs1, imm } => joined_i(0x03, rd, codes::load(op), rs1, twelve(imm)),
-        Instr::Store { op, rs1, rs2, imm } => joined(
-            0x23,
-            low_s(imm),
-            codes::store(op),
-            rs1,
-            rs2,
-            high_s(imm),
-        ),
-        Instr::OpImm { op, rd, rs1, imm } => joined_i(
-            0x13,
-            rd,
-            codes::immediate(op),
-            rs1,
-            operand(op, imm),
-        ),
-        Instr::Op { op, rd, rs1, rs2 } => joined(
-            0x33,
-            rd,
-            codes::register(op),
-            rs1,
-            rs2,
-            codes::register7(op),
-        ),
+        Instr::Store { op, rs1, rs2, imm } => joined_s(0x23, codes::store(op), rs1, rs2, imm),
+        Instr::OpImm { op, rd, rs1, imm } => {
+            joined_i(0x13, rd, codes::immediate(op), rs1, operand(op, imm))
+        }
+        Instr::Op { op, rd, rs1, rs2 } => {
+            let high = codes::register7(op);
+            joined(0x33, rd, codes::register(op), rs1, rs2, high)
+        }
         Instr::Fence { op, rd, rs1, imm } => joined_i(0x0f, rd, codes::fence(op), rs1, twelve(imm)),
         Instr::Atomic {
             op,

@@ -1,4 +1,4 @@
-//! The instructions of each opcode, read.
+//! The instructions of each opcode, read. (Unprivileged manual, chapter 24.)
 ghost use Rattle.std.specs.Prelude.{◌≡◌, ℕ, ◌%◌, ◌^◌, ◌++◌};
 ghost use Rattle.rv_decode.specs.Fields.{opcode_of};
 ghost use Rattle.rv_decode.specs.Listing.{read_by, jalrs, branches, loads, stores, immediates, registers, fences, atomics, csrs, bares};
@@ -8,6 +8,7 @@ use crate::fields::{funct3, imm_b, imm_i, imm_s, rd, rs1, rs2};
 use crate::instruction::Instr;
 use crate::operations::{AtomicOp, BranchOp, CsrOp, FenceOp, ImmOp, LoadOp, RegOp, StoreOp};
 
+/// What a word of the opcode 67 reads: JALR.
 pub fn jalr(word: u32) -> Option<Instr>
     requires { opcode_of word ≡ 0x67 }
     ensures { result ≡ read_by jalrs word }
@@ -33,6 +34,7 @@ fn branch_of(op: BranchOp, word: u32) -> Instr
     }
 }
 
+/// What a word of the opcode 63 reads: the branches.
 pub fn branch(word: u32) -> Option<Instr>
     requires { opcode_of word ≡ 0x63 }
     ensures { result ≡ read_by branches word }
@@ -59,6 +61,7 @@ fn load_of(op: LoadOp, word: u32) -> Instr
     }
 }
 
+/// What a word of the opcode 03 reads: the loads.
 pub fn load(word: u32) -> Option<Instr>
     requires { opcode_of word ≡ 0x03 }
     ensures { result ≡ read_by loads word }
@@ -84,6 +87,7 @@ fn store_of(op: StoreOp, word: u32) -> Instr
     }
 }
 
+/// What a word of the opcode 23 reads: the stores.
 pub fn store(word: u32) -> Option<Instr>
     requires { opcode_of word ≡ 0x23 }
     ensures { result ≡ read_by stores word }
@@ -118,6 +122,7 @@ fn shift_of(op: ImmOp, word: u32) -> Instr
     }
 }
 
+/// What a word of the opcode 13 reads: the operations on an immediate.
 pub fn immediate(word: u32) -> Option<Instr>
     requires { opcode_of word ≡ 0x13 }
     ensures { result ≡ read_by immediates word }
@@ -147,6 +152,7 @@ fn register_of(op: RegOp, word: u32) -> Instr
     }
 }
 
+/// What a word of the opcode 33 reads: the operations on registers.
 pub fn register(word: u32) -> Option<Instr>
     requires { opcode_of word ≡ 0x33 }
     ensures { result ≡ read_by registers word }
@@ -185,6 +191,7 @@ fn fence_of(op: FenceOp, word: u32) -> Instr
     }
 }
 
+/// What a word of the opcode 0f reads: FENCE and FENCE.I.
 pub fn fence(word: u32) -> Option<Instr>
     requires { opcode_of word ≡ 0x0f }
     ensures { result ≡ read_by fences word }
@@ -208,6 +215,7 @@ fn atomic_of(op: AtomicOp, word: u32) -> Instr
     }
 }
 
+/// What a word of the opcode 2f reads: the atomics.
 pub fn atomic(word: u32) -> Option<Instr>
     requires { opcode_of word ≡ 0x2f }
     ensures { result ≡ read_by atomics word }
@@ -255,6 +263,7 @@ fn bare(word: u32) -> Option<Instr>
     }
 }
 
+/// What a word of the opcode 73 reads: the CSR instructions, ECALL, EBREAK, MRET and WFI.
 pub fn system(word: u32) -> Option<Instr>
     requires { opcode_of word ≡ 0x73 }
     ensures { result ≡ read_by (csrs ++ bares) word }

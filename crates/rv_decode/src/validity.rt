@@ -11,6 +11,12 @@ fn is_register(number: u32) -> bool
     number < 32
 }
 
+fn are_registers(first: u32, second: u32) -> bool
+    ensures { IsTrue result ↔ IsRegister first × IsRegister second }
+{
+    is_register(first) && is_register(second)
+}
+
 fn is_signed_12(imm: i32) -> bool
     ensures { IsTrue result ↔ IsSigned 12 imm }
 {
@@ -68,53 +74,26 @@ pub fn is_valid(i: Instr) -> bool
         Instr::Lui { rd, imm } => is_register(rd) && is_upper(imm),
         Instr::Auipc { rd, imm } => is_register(rd) && is_upper(imm),
         Instr::Jal { rd, imm } => is_register(rd) && is_jump_offset(imm),
-        Instr::Jalr { rd, rs1, imm } => is_register(rd) && is_register(rs1) && is_signed_12(imm),
-        Instr::Branch {
-            op: _,
-            rs1,
-            rs2,
-            imm,
-        } => is_register(rs1) && is_register(rs2) && is_branch_offset(imm),
-        Instr::Load {
-            op: _,
-            rd,
-            rs1,
-            imm,
-        } => is_register(rd) && is_register(rs1) && is_signed_12(imm),
-        Instr::Store {
-            op: _,
-            rs1,
-            rs2,
-            imm,
-        } => is_register(rs1) && is_register(rs2) && is_signed_12(imm),
-        Instr::OpImm { op, rd, rs1, imm } => is_register(rd)
-            && is_register(rs1)
-            && is_operand(op, imm),
-        Instr::Op {
-            op: _,
-            rd,
-            rs1,
-            rs2,
-        } => is_register(rd) && is_register(rs1) && is_register(rs2),
-        Instr::Fence {
-            op: _,
-            rd,
-            rs1,
-            imm,
-        } => is_register(rd) && is_register(rs1) && is_signed_12(imm),
+        Instr::Jalr { rd, rs1, imm } => are_registers(rd, rs1) && is_signed_12(imm),
+        Instr::Branch { rs1, rs2, imm, .. } => are_registers(rs1, rs2) && is_branch_offset(imm),
+        Instr::Load { rd, rs1, imm, .. } => are_registers(rd, rs1) && is_signed_12(imm),
+        Instr::Store { rs1, rs2, imm, .. } => are_registers(rs1, rs2) && is_signed_12(imm),
+        Instr::OpImm { op, rd, rs1, imm } => are_registers(rd, rs1) && is_operand(op, imm),
+        Instr::Op { rd, rs1, rs2, .. } => are_registers(rd, rs1) && is_register(rs2),
+        Instr::Fence { rd, rs1, imm, .. } => are_registers(rd, rs1) && is_signed_12(imm),
         Instr::Atomic {
             op,
             rd,
             rs1,
             rs2,
             order,
-        } => { is_register(rd) && is_register(rs1) && is_second(op, rs2) && order < 4 }
+        } => are_registers(rd, rs1) && is_second(op, rs2) && order < 4,
         Instr::Csr {
             op: _,
             rd,
             source,
             csr,
-        } => is_register(rd) && is_register(source) && csr < 4096,
+        } => are_registers(rd, source) && csr < 4096,
         Instr::Ecall | Instr::Ebreak | Instr::Mret | Instr::Wfi => true,
     }
 }
