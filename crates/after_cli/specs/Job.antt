@@ -16,7 +16,7 @@ cover_job file ram_kib limit = record { image = flat_image file; ram_kib = ram_k
 unfoldable pub default_job : List ℕ → Job
 default_job file = cover_job file 1024 10000000
 
--- the course of a run of it, with a log of 1,024 places
+-- the course of a run of a job of coverage alone, with a log of 1,024 places
 abbrev pub job_course : Job → Course
 job_course job = record { start = started job.image job.ram_kib; limit = job.limit; cap = 1024; made = make_of Cover job.image }
 

@@ -25,6 +25,7 @@ closing_in FilesFailed = None
 closing_in NoMemory = None
 closing_in NotBuilt = None
 
+-- what each answer says of the words, the files and the output
 abbrev pub Means : {S : Type 0} → Option Contents → List (List ℕ) → ℕ → ℕ → (S → List ℕ → Type 0) → (S → ℕ) → S → S → Answer → Type 0
 Means content words before now holds faults old new (Done status closing) = IsDone content words holds old new status (Some closing)
 Means content words before now holds faults old new FilesFailed = FilesHaveFailed content words before now × (new ≡ old)
@@ -32,11 +33,13 @@ Means content words before now holds faults old new (OutputFailed closing) = Out
 Means content words before now holds faults old new NoMemory = new ≡ old
 Means content words before now holds faults old new NotBuilt = IsNotBuilt content words × (new ≡ old)
 
+-- the answer that a job's end gives
 abbrev pub answer_of : JobEnd → Answer
 answer_of (end.Done status closing) = Done status closing
 answer_of (end.OutputFailed closing) = OutputFailed closing
 answer_of end.NoMemory = NoMemory
 
+-- the answer that a refusal gives
 abbrev pub answer_to : Refusal → Answer
 answer_to refusal.FilesFailed = FilesFailed
 answer_to refusal.NotBuilt = NotBuilt

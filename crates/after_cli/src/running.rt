@@ -1,5 +1,5 @@
 //! A job from its opening to its report.
-ghost use Rattle.std.specs.Prelude.{◌≡◌, ◌*◌, ◌≤◌, ◌++◌, List, length, IfOk, OnOk, OnErr};
+ghost use Rattle.std.specs.Prelude.{◌≡◌, ◌*◌, ◌≤◌, ◌++◌, List, is_some, length, IfOk, OnOk, OnErr};
 ghost use Rattle.after_edge.specs.Fault.{Rose};
 ghost use Rattle.after_edge.specs.Sink.{Adds, AddsPart};
 ghost use Rattle.run_events.specs.declared.event.Event.{Event};
@@ -71,15 +71,15 @@ fn report<O: Sink>(facts: &RunFacts, analysis: &AnyAnalysis, out: &mut O) -> Res
     }
 }
 
-// The status of an end.
-fn status_number(end: EndCause, refused: bool) -> u8
-    ensures { result ≡ status_of end refused }
+// The status of an end, and of the first finding's step.
+fn status_number(end: EndCause, first: Option<u32>) -> u8
+    ensures { result ≡ status_of end (is_some first) }
 {
-    match end {
-        EndCause::Stuck => 11,
-        _ if refused => 1,
-        EndCause::Power { .. } => 0,
-        EndCause::Limit => 8,
+    match (end, first) {
+        (EndCause::Stuck, _) => 11,
+        (_, Some(_)) => 1,
+        (EndCause::Power { .. }, None) => 0,
+        (EndCause::Limit, None) => 8,
     }
 }
 
@@ -100,7 +100,7 @@ fn tell<O: Sink>(closing: &Closing, out: &mut O) -> Result<u8, Failed>
         Ok(()) => {}
         Err(failed) => return Err(failed),
     }
-    Ok(status_number(facts.end, analysis.first().is_some()))
+    Ok(status_number(facts.end, analysis.first()))
 }
 
 /// Runs a flat guest with coverage, which is required: its released output and the report go out.

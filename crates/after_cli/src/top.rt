@@ -140,14 +140,14 @@ pub fn end_with<E: Sink>(status: u8, err: &mut E) -> Outcome
 ///   8 after the step limit with no finding, 11 where the run came to a step that is not built yet.
 /// - 5: a file is absent, or `files` failed. Nothing was added to `out`.
 /// - 6: a put of `out` failed. Some front of the job's text was added.
-/// - 9: want of memory, which nothing causes. Nothing was added to `out`.
+/// - 9: want of memory; no clause says when it comes. Nothing was added to `out`.
 /// - 10: the words or the files are not those of a run that is built. Nothing was added to `out`.
 ///
 /// `closing` is there exactly where a run was opened: with the statuses of a run that was done, and with 6. It holds the
-/// one log and what the replica has made of it. After a failed put the log was closed at once, at what had been appended,
-/// no further put was made, and the replica has read to the close.
+/// one log and what the replica has made of it. After a failed put the log was closed where it stood, and the replica has
+/// read to the close.
 ///
-/// A refusal, and status 6, writes its line on `err`; a failure of `err` changes no answer. No file is changed.
+/// A refusal, and status 6, writes its line on `err`; a failure of `err` changes no answer. The files' content is as before.
 pub fn aftersight_plain<F: Files, O: Sink, E: Sink>(
     alloc: Global,
     words: &[String],

@@ -51,12 +51,14 @@ pub record Changes (old new : Option Contents) (name : List ℕ) (changed : Opti
   pub untold : old ≡ None → new ≡ None
   pub told : IfTold old (λ was. (files : Contents) × (new ≡ Some files) × ChangesTold was files name changed)
 
+-- what becomes of the file of that name: begun, it has no bytes; where the call failed, it is as before or begun
 abbrev pub IsBegun : Option (List ℕ) → Option (List ℕ) → Type 0
 IsBegun was now = now ≡ Some []
 
 abbrev pub MayBeBegun : Option (List ℕ) → Option (List ℕ) → Type 0
 MayBeBegun was now = (now ≡ was) ⊎ (now ≡ Some [])
 
+-- the piece stands behind its bytes; where the call failed, it is as before or a front of the piece does
 abbrev pub IsAppended : List ℕ → Option (List ℕ) → Option (List ℕ) → Type 0
 IsAppended piece was now = now ≡ Some (unwrap_or was [] ++ piece)
 

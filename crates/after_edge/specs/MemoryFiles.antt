@@ -76,6 +76,7 @@ HasRoom (Some entry) bytes = bytes ≤ entry.room
 abbrev pub filled : List ℕ → Kept → Kept
 filled bytes entry = record { name = entry.name; file = Some bytes; room = max entry.room (length bytes) }
 
+-- the files after a name got room for this many bytes
 abbrev pub room_after : FilesState → List ℕ → ℕ → FilesState
 room_after s text bytes = record {
   entries = changed_or_added (with_room bytes) (with_no_file text bytes) text s.entries;
@@ -84,6 +85,7 @@ room_after s text bytes = record {
   faults = s.faults;
 }
 
+-- the files after a name got these bytes
 abbrev pub set_after : FilesState → List ℕ → List ℕ → FilesState
 set_after s text bytes = record {
   entries = changed_or_added (filled bytes) (filled bytes (with_no_file text 0)) text s.entries;
@@ -118,6 +120,7 @@ read_of (Some bytes) at size = Ok (min size (length bytes - at))
 abbrev pub read_answer : FilesState → List ℕ → ℕ → ℕ → Result ℕ ReadFault
 read_answer s text at size = if is_planned s then Err Failed else read_of (file_of s.entries text) at size
 
+-- the files after a read
 abbrev pub read_after : FilesState → FilesState
 read_after s = call_after s s.entries (is_planned s)
 
@@ -125,9 +128,11 @@ read_after s = call_after s s.entries (is_planned s)
 abbrev pub begin_fails : FilesState → List ℕ → Bool
 begin_fails s text = is_planned s || is_none (entry_of s.entries text)
 
+-- the files after a begin
 abbrev pub begin_after : FilesState → List ℕ → FilesState
 begin_after s text = call_after s (if is_planned s then s.entries else changed begun text s.entries) (begin_fails s text)
 
+-- the piece passes the room of the name, which may have none
 abbrev pub has_no_place : List ℕ → Option Kept → Bool
 has_no_place piece None = true
 has_no_place piece (Some entry) = passes_room piece entry
@@ -136,5 +141,6 @@ has_no_place piece (Some entry) = passes_room piece entry
 abbrev pub append_fails : FilesState → List ℕ → List ℕ → Bool
 append_fails s text piece = is_planned s || has_no_place piece (entry_of s.entries text)
 
+-- the files after an append
 abbrev pub append_after : FilesState → List ℕ → List ℕ → FilesState
 append_after s text piece = call_after s (if is_planned s then s.entries else changed (appended piece) text s.entries) (append_fails s text piece)

@@ -26,7 +26,7 @@ pub enum FileFault {
 const CHUNK: usize = 4096;
 
 /// The whole file, where it has at most `max` bytes.
-/// Whatever the answer, the files are as before, and the bytes that were read are given up with an error.
+/// Whatever the answer, the files' content is as before, and the bytes that were read are given up with an error.
 pub fn read_all<F: Files>(
     alloc: Global,
     files: &mut F,

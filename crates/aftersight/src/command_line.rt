@@ -11,8 +11,8 @@ use std::env::Args;
 use std::rt::Env;
 use std::{env, io};
 
-/// The words behind the program's name, or the status where they cannot be read: 9 for want of memory, and 10 for a
-/// word that is no UTF-8 text, since no run that is built has such words.
+/// The words behind the program's name, or the status where they cannot be read: 9 for want of memory, and 10 for any
+/// other reason, such as a word that is no UTF-8 text, since no run that is built has such words.
 pub fn read_words<R: Env + AllocGlobal>(rt: &R) -> Result<Vec<String>, u8>
     ensures { IfErr result (λ status. (status ≡ 9) ⊎ (status ≡ 10)) }
 {

@@ -33,6 +33,7 @@ abbrev pub least_refused : List Span → Finished → List Kind → ℕ
 least_refused code run [] = run.steps
 least_refused code run (kind ∷ kinds) = min (first_refused code run kind) (least_refused code run kinds)
 
+-- the first step of a job that a required analysis refuses, and the number of steps where none does
 abbrev pub stop : Job → ℕ
 stop job = least_refused (executable_spans job.image) (finished job) job.required
 
@@ -44,6 +45,7 @@ before_step step sent = filter (λ byte. nat_lt byte.0 step) sent
 abbrev pub released_of : List Span → Finished → List Kind → List (ℕ × ℕ)
 released_of code run required = before_step (least_refused code run required) (output run.events)
 
+-- the part of a job's output that goes out
 abbrev pub released : Job → List (ℕ × ℕ)
 released job = released_of (executable_spans job.image) (finished job) job.required
 
@@ -57,5 +59,6 @@ status_of Stuck refused = 11
 status_of (Power status) refused = if refused then 1 else 0
 status_of Limit refused = if refused then 1 else 8
 
+-- the status of a job
 abbrev pub status : Job → ℕ
 status job = status_of (finished job).cause (has_finding (executable_spans job.image) (finished job).events job.kinds)

@@ -1,4 +1,4 @@
-//! The enum of analyses, and the trait that they share.
+//! The enum of analyses.
 ghost use Rattle.std.specs.Prelude.{◌≡◌, ◌≤◌, ℕ, List, [], ◌∷◌, ◌++◌, IfOk};
 ghost use Rattle.run_events.specs.declared.event.Event.{Event};
 ghost use Rattle.run_events.specs.Event.{Fits};

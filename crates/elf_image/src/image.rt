@@ -40,7 +40,7 @@ impl Model for Image {
 }
 
 impl Image {
-    /// Puts the segments' bytes into RAM, in order. The image was read for a RAM of this size.
+    /// Puts the segments' bytes into RAM, in order. Each segment's bytes stand in that RAM.
     pub fn load_into(&self, ram: &mut Ram)
         requires { IsLoadable (length ram.old) self.now.segments }
         ensures loaded { ram.new ≡ ram_with self.now.segments ram.old }

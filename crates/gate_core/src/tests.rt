@@ -1,61 +1,58 @@
 //! Two readers of a small log, and a verdict.
-use crate::{Full, Hub, Take, Verdict};
-use run_events::Record;
-use std::io;
+ghost use Rattle.std.specs.Prelude.{◌≡◌, length, IfOk};
 
-// Sixteen places and two readers; the records are numbered from 0.
-#[test]
-fn two_readers_of_sixteen_places(rt: HostRuntime) -> io::Result<()> {
-    let mut hub = Hub::new(rt.alloc(), 16, 2)?;
-    assert_eq!(rt; hub.take(0), Take::Empty { head: 0 }, "nothing is there");
+use crate::{Full, Hub, Take, Verdict};
+use memory_map::NoMemory;
+use run_events::Record;
+use std::alloc::Global;
+use std::io;
+use std::process::Abort;
+
+// A log of sixteen places, full of the records 0 to 15, with two readers.
+fn full_log(rt: &impl Abort, alloc: Global) -> Result<Hub, NoMemory>
+    ensures { IfOk result (λ hub. length hub.taken ≡ 2) }
+{
+    let mut hub = Hub::new(alloc, 16, 2)?;
     for step in 0..16u32 {
         assert!(rt; !hub.is_closed() && hub.appended() <= 16);
         assert_eq!(rt; hub.append(Record::Reach { step }), Ok(()), "at {step}");
     }
+    Ok(hub)
+}
+
+fn behind(reader: u32) -> Result<(), Full> {
+    Err(Full { reader, taken: 0 })
+}
+
+#[test]
+fn a_log_is_full_for_its_last_reader(rt: HostRuntime) -> io::Result<()> {
+    let mut hub = full_log(&rt, rt.alloc())?;
     let last = Record::Reach { step: 16 };
-    assert!(rt; !hub.is_closed() && hub.appended() == 16);
-    assert_eq!(rt;
-        hub.append(last),
-        Err(Full {
-            reader: 0,
-            taken: 0
-        }),
-        "both are behind"
-    );
-    assert_eq!(rt;
-        hub.take(0),
-        Take::Got(Record::Reach { step: 0 }),
-        "the first to go on"
-    );
-    assert_eq!(rt;
-        hub.append(last),
-        Err(Full {
-            reader: 1,
-            taken: 0
-        }),
-        "one is behind"
-    );
-    assert_eq!(rt;
-        hub.take(1),
-        Take::Got(Record::Reach { step: 0 }),
-        "the other goes on"
-    );
+    let first = Take::Got(Record::Reach { step: 0 });
+    assert!(rt; !hub.is_closed() && hub.appended() <= 16);
+    assert_eq!(rt; hub.append(last), behind(0), "both are behind");
+    assert_eq!(rt; hub.take(0), first, "the first goes on");
+    assert_eq!(rt; hub.append(last), behind(1), "one is behind");
+    assert_eq!(rt; hub.take(1), first, "the other goes on");
     assert_eq!(rt; hub.append(last), Ok(()), "there is room again");
-    hub.close();
-    for reader in 0..2u32 {
-        for step in 1..17u32 {
-            assert_eq!(rt;
-                hub.take(reader),
-                Take::Got(Record::Reach { step }),
-                "{reader} at {step}"
-            );
-        }
-        assert_eq!(rt; hub.take(reader), Take::Closed, "{reader} at the end");
-        assert_eq!(rt; hub.take(reader), Take::Closed, "{reader} after the end");
-        assert_eq!(rt; hub.taken(reader), 17, "{reader}");
-    }
-    assert!(rt; hub.is_closed());
     assert_eq!(rt; hub.appended(), 17);
+    Ok(())
+}
+
+#[test]
+fn a_reader_takes_each_record_to_the_close(rt: HostRuntime) -> io::Result<()> {
+    let mut hub = full_log(&rt, rt.alloc())?;
+    for step in 0..16u32 {
+        assert_eq!(rt; hub.take(1), Take::Got(Record::Reach { step }), "at {step}");
+    }
+    assert_eq!(rt; hub.take(1), Take::Empty { head: 16 }, "it has all");
+    assert!(rt; !hub.is_closed());
+    hub.close();
+    assert_eq!(rt; hub.take(1), Take::Closed, "at the end");
+    assert_eq!(rt; hub.take(1), Take::Closed, "after the end");
+    assert_eq!(rt; hub.taken(1), 16);
+    assert_eq!(rt; hub.taken(0), 0);
+    assert!(rt; hub.is_closed());
     Ok(())
 }
 

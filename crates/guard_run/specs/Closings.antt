@@ -32,11 +32,12 @@ end_in items = end_back (reverse items)
 abbrev pub facts_with : Closing → Ending → RunFacts
 facts_with closing ending = record { steps = ending.steps; end = ending.cause; issued = closing.gate.issued; released = closing.gate.released; items = closing.hub.appended }
 
+-- none where the log has no end
 abbrev pub facts_at : Closing → Option RunFacts
 facts_at closing = option_map (facts_with closing) closing.end
 
--- The closing of a run with this list of records as its log: it is closed, its one reader has taken all of it, and the last of it is stored. The
--- analysis has seen the run's events as far as the log reaches, and no other.
+-- The closing of a run with this list of records as its log: it is closed, its one reader has taken all of it, and the last
+-- of it is stored. The analysis has seen the run's events as far as the log reaches, and no other.
 pub record Closes (c : Course) (items : List Record) (closing : Closing) : Type 0 where
   pub cap : closing.hub.cap ≡ c.cap
   pub closed : closing.hub.closed ≡ true

@@ -8,6 +8,8 @@ use Rattle.analysis_model.specs.Made.{code_made_of, kind_made_of}
 use Rattle.analysis_model.specs.Job.{least_refused, released_of}
 use Rattle.gate_core.specs.Core.{Plan}
 
+-- what a run is to come to: the state it starts in, the most steps, the places of the log, and what its analysis is made
+-- of
 pub record Course : Type 0 where
   pub start : State
   pub limit : ℕ

@@ -48,6 +48,7 @@ pub record TookNone (core : CoreState) (hub hub' : HubState) (replica replica' :
   pub same_hub : hub' ≡ hub
   pub same_replica : replica' ≡ replica
 
+-- what a turn answers, and where it leads
 abbrev pub Turned : Course → CoreState → Turn → HubState → HubState → Replica → Replica → Type 0
 Turned c core Took hub hub' replica replica' = (taken_by core < core.appended) × Follows c (after_turn c core) hub' replica'
 Turned c core Empty hub hub' replica replica' = (core.closed ≡ false) × TookNone core hub hub' replica replica'

@@ -51,21 +51,24 @@ next_has_byte (i ∷ rest) = is_some i.byte
 abbrev pub HasNoRoom : Course → CoreState → Parts → Type 0
 HasNoRoom c core parts = (taken_by core + c.cap ≡ core.appended) ⊎ ((length parts.gate.steps ≡ 4096) × (next_has_byte (still_to_come parts.source) ≡ true))
 
--- a turn of the recorder
+-- a turn of the recorder that appended the next record
 pub record HasAppended (c : Course) (core : CoreState) (after : Parts) : Type 0 where
   pub «open» : core.closed ≡ false
   pub more : core.appended < length (log_of c)
   pub at : IsAt c (after_event (plan_of c) core Append) after
 
+-- one that closed the log behind the last record
 pub record HasClosed (c : Course) (core : CoreState) (after : Parts) : Type 0 where
   pub «open» : core.closed ≡ false
   pub all : core.appended ≡ length (log_of c)
   pub at : IsAt c (after_event (plan_of c) core Close) after
 
+-- one that found no room, and changed nothing
 pub record HasWaited (c : Course) (core : CoreState) (before after : Parts) : Type 0 where
   pub crowded : HasNoRoom c core before
   pub at : IsAt c core after
 
+-- what a turn of the recorder answers, and where it leads
 abbrev pub Records : Course → CoreState → Recorded → Parts → Parts → Type 0
 Records c core Appended before after = HasAppended c core after
 Records c core Closed before after = HasClosed c core after

@@ -5,6 +5,7 @@ mod closing;
 mod job;
 mod parts;
 mod replica;
+mod shared;
 mod source;
 mod turns;
 

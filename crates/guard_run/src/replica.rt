@@ -41,7 +41,7 @@ pub struct Replica {
 
 impl Replica {
     /// A replica of a guest with this image and `ram_kib` KiB of RAM, which is the hub's reader of this number and has
-    /// taken nothing. It is the only call that takes memory.
+    /// taken nothing. It is the only call that takes memory. Turns are for number 0 as long as a run has one replica.
     pub fn new(
         alloc: Global,
         image: &Image,

@@ -54,8 +54,8 @@ impl Parts {
 /// Runs the guest to its end by turns: the recorder's, the replica's and the gate's, again and again until the log is
 /// closed and the replica has read it to its close. It takes no memory.
 ///
-/// After SinkFault, which comes only where a put failed, the log was closed at once, no further put was made, and the
-/// replica has read to the close: a front was written of what the analysis lets out of the records in the log.
+/// After SinkFault, which comes only where a put failed, the log was closed where it stood, and the replica has read to
+/// the close: a front was written of what the analysis lets out of the records in the log.
 pub fn run_turns<O: Sink>(parts: &mut Parts, out: &mut O) -> Result<(), SinkFault>
     requires { IsOpenedRun parts.old }
     ensures ok { OnOk result ((c : Course) → IsOpened c parts.old → HasEnded c parts.new O.holds out.old out.new) }

@@ -17,6 +17,7 @@ use Rattle.machine_model.specs.Run.{power_status}
 abbrev pub next_of : State → Option State
 next_of s = option_map (λ step. step.1) (step_from s)
 
+-- the state before this step of the run from a state, where it comes to it
 unfoldable pub state_at : ℕ → State → Option State
 state_at zero start = Some start
 state_at (suc k) start = option_and_then next_of (state_at k start)
@@ -94,6 +95,7 @@ end_agrees n (Power told) start = has_status told (last_power n start)
 end_agrees n Limit start = not (is_some (last_power n start))
 end_agrees n Stuck start = is_stuck n start
 
+-- where all steps below a record's number are done, an end has to be the run's; the other records agree with each run
 abbrev pub agrees : State → Record → Bool
 agrees start (End n cause) = end_agrees n cause start
 agrees start (Reach step) = true
@@ -106,6 +108,7 @@ abbrev pub elsewhere : State → Record → Option ℕ → Option Fault
 elsewhere start item (Some step) = Some (EndsElsewhere step)
 elsewhere start item None = if agrees start item then None else Some (EndsElsewhere (number item))
 
+-- a record that falls in the order is told first, then one that stands where the run does not come to
 abbrev pub fault_of : State → List Record → Record → Option Fault
 fault_of start before item = if is_admitted before item then elsewhere start item (first_end (number item) start item) else Some (StepFalls (number item))
 
@@ -118,6 +121,7 @@ unfoldable pub first_fault_back : State → List Record → Option Fault
 first_fault_back start [] = None
 first_fault_back start (last ∷ before) = fault_behind start before last (first_fault_back start before)
 
+-- and of a list in order
 abbrev pub first_fault : State → List Record → Option Fault
 first_fault start items = first_fault_back start (reverse items)
 
@@ -142,6 +146,7 @@ unfoldable pub executed_back : State → List Record → ℕ
 executed_back start [] = 0
 executed_back start (last ∷ before) = executed_behind start before last (first_fault_back start before) (executed_back start before)
 
+-- and of a list in order, the number of steps that it has executed
 abbrev pub executed : State → List Record → ℕ
 executed start items = executed_back start (reverse items)
 
@@ -149,5 +154,6 @@ executed start items = executed_back start (reverse items)
 abbrev pub shown_back : State → List Record → List Event
 shown_back start items = events_below (executed_back start items) start
 
+-- and of a list in order, the events that it shows
 abbrev pub shown : State → List Record → List Event
 shown start items = shown_back start (reverse items)

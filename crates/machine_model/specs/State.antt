@@ -19,8 +19,8 @@ pub record State : Type 0 where
   -- the number of steps done
   pub step : ℕ
 
--- after reset mstatus is 00001800 and misa 40001101, and every other one is 0. No instruction that is built changes them.
--- (Privileged manual, 3.4.)
+-- after reset mstatus is 00001800 and misa 40001101, and every other one is 0, which the manual leaves open. No
+-- instruction that is built changes them. (Privileged manual, 3.4.)
 unfoldable pub reset_csrs : FinMap nat_cmp ℕ
 reset_csrs = from_entries ((0x300, 0x1800) ∷ (0x301, 0x40001101) ∷ [])
 

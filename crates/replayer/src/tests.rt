@@ -72,50 +72,37 @@ fn takes_its_own_log(rt: HostRuntime) -> Result<(), Fail> {
     Ok(())
 }
 
+fn ends(step: u32, cause: EndCause) -> Record {
+    Record::End { step, cause }
+}
+
+// In each case the second record after a first one that the guest's own log has, its fault, and how many steps are done.
 #[test]
 fn refuses_a_foreign_list(rt: HostRuntime) -> Result<(), Fail> {
     let mark = Record::Reach { step: 3 };
-    let other_status = Record::End {
-        step: 5,
-        cause: EndCause::Power { status: 1 },
-    };
-    let limit = Record::End {
-        step: 5,
-        cause: EndCause::Limit,
-    };
-    let stuck = Record::End {
-        step: 3,
-        cause: EndCause::Stuck,
-    };
-    let early = Record::End {
-        step: 4,
-        cause: EndCause::Power { status: 0 },
-    };
-    assert_eq!(rt;
-        fed(rt.alloc(), mark, Record::Reach { step: 2 })?,
-        (at(2, Why::StepFalls), 3)
-    );
-    assert_eq!(rt; fed(rt.alloc(), mark, mark)?, (at(3, Why::StepFalls), 3));
-    assert_eq!(rt;
-        fed(rt.alloc(), mark, other_status)?,
-        (at(4, Why::EndsElsewhere), 5)
-    );
-    assert_eq!(rt;
-        fed(rt.alloc(), mark, limit)?,
-        (at(4, Why::EndsElsewhere), 5)
-    );
-    assert_eq!(rt;
-        fed(rt.alloc(), mark, stuck)?,
-        (at(3, Why::EndsElsewhere), 3)
-    );
-    assert_eq!(rt;
-        fed(rt.alloc(), mark, early)?,
-        (at(4, Why::EndsElsewhere), 4)
-    );
-    assert_eq!(rt;
-        fed(rt.alloc(), mark, Record::Reach { step: 6 })?,
-        (at(4, Why::EndsElsewhere), 5)
-    );
+    for (last, fault, done) in [
+        (Record::Reach { step: 2 }, at(2, Why::StepFalls), 3),
+        (mark, at(3, Why::StepFalls), 3),
+        (
+            ends(5, EndCause::Power { status: 1 }),
+            at(4, Why::EndsElsewhere),
+            5,
+        ),
+        (ends(5, EndCause::Limit), at(4, Why::EndsElsewhere), 5),
+        (ends(3, EndCause::Stuck), at(3, Why::EndsElsewhere), 3),
+        (
+            ends(4, EndCause::Power { status: 0 }),
+            at(4, Why::EndsElsewhere),
+            4,
+        ),
+        (Record::Reach { step: 6 }, at(4, Why::EndsElsewhere), 5),
+    ] {
+        assert_eq!(rt;
+            fed(rt.alloc(), mark, last)?,
+            (fault, done),
+            "then {last:?}"
+        );
+    }
     Ok(())
 }
 

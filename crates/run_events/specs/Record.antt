@@ -60,6 +60,7 @@ abbrev pub is_ordered_back : List Record → Bool
 is_ordered_back [] = true
 is_ordered_back (last ∷ before) = is_admitted before last && is_ordered_back before
 
+-- and read in order
 abbrev pub is_ordered : List Record → Bool
 is_ordered items = is_ordered_back (reverse items)
 
@@ -68,5 +69,6 @@ abbrev pub reach_back : List Record → ℕ
 reach_back [] = 0
 reach_back (last ∷ before) = number last
 
+-- and of a list in order
 abbrev pub reach : List Record → ℕ
 reach items = reach_back (reverse items)

@@ -1,4 +1,4 @@
-//! Events, one a step.
+//! Events: what a step did, or a word that the disk wrote before one.
 ghost use Rattle.std.specs.Prelude.{◌≡◌};
 ghost use Rattle.run_events.specs.Event as events;
 

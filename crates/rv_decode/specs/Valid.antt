@@ -29,6 +29,7 @@ abbrev pub IsSecond : AtomicOp → ℕ → Type 0
 IsSecond Lr number = number ≡ 0
 IsSecond _ number = IsRegister number
 
+-- each field of the instruction fits its place
 abbrev pub IsValid : Instr → Type 0
 IsValid (Lui rd imm) = IsRegister rd × IsSigned 32 imm × IsMultiple (2 ^ 12) imm
 IsValid (Auipc rd imm) = IsRegister rd × IsSigned 32 imm × IsMultiple (2 ^ 12) imm

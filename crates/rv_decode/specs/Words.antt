@@ -155,6 +155,7 @@ abbrev pub immediate_extra : ImmOp → ℕ
 immediate_extra Srai = 2 ^ 10
 immediate_extra _ = 0
 
+-- the word of an instruction, a form at a time
 unfoldable pub encoded : Instr → ℕ
 encoded (Lui rd imm) = joined_u 0x37 rd (places_u (bits_of imm))
 encoded (Auipc rd imm) = joined_u 0x17 rd (places_u (bits_of imm))

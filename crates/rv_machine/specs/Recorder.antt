@@ -65,6 +65,7 @@ pub record GoesOn (before after : Recorder) : Type 0 where
   pub counted : after.cpu.step ≡ before.cpu.step + 1
   pub between : 0 < after.cpu.step % 256
 
+-- a turn gives the next item, or goes on by a step that has none
 abbrev pub Turned : Option Given → Recorder → Recorder → Type 0
 Turned (Some given) before after = IsNext (item_of given) before after
 Turned None before after = GoesOn before after

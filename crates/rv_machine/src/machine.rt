@@ -64,8 +64,8 @@ fn start(alloc: Global, image: &Image, ram_kib: u32) -> Result<Cpu, NoMemory>
 }
 
 impl Machine {
-    /// The guest of an image before its first step, which will be run for at most this many steps. It takes all the
-    /// memory of the run.
+    /// The guest of an image before its first step, which will be run for at most this many steps. It is the only call
+    /// that takes memory.
     pub fn new(alloc: Global, image: &Image, ram_kib: u32, limit: u32) -> Result<Machine, NoMemory>
         requires least { 64 ≤ ram_kib }
         requires most { ram_kib ≤ 16384 }

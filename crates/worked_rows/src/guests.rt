@@ -1,6 +1,4 @@
-//! Guests and their texts.
-
-// Guests as flat files, and the texts that they come to.
+//! Guests as flat files, and the texts that they come to.
 
 /// Writes H and powers off.
 pub const HELLO: [u8; 20] = [
@@ -8,6 +6,7 @@ pub const HELLO: [u8; 20] = [
     0x23, 0x20, 0x06, 0x00,
 ];
 
+/// The text of `HELLO`.
 pub const HELLO_TEXT: &str = "\
 H
 == aftersight report
@@ -26,6 +25,7 @@ pub const OUTGROWN: [u8; 28] = [
     0x37, 0x03, 0xb5, 0x00, 0x13, 0x03, 0x33, 0x02, 0x23, 0xae, 0x62, 0x00,
 ];
 
+/// The text of `OUTGROWN`.
 pub const OUTGROWN_TEXT: &str = "\
 H
 == aftersight report
@@ -45,6 +45,7 @@ pub const OUTGROWN_POWER: [u8; 24] = [
     0x37, 0x06, 0x10, 0x10, 0x13, 0x00, 0x00, 0x00,
 ];
 
+/// The text of `OUTGROWN_POWER`.
 pub const OUTGROWN_POWER_TEXT: &str = "
 == aftersight report
 steps 7
@@ -57,6 +58,7 @@ cover range 80000000 8000001c
 cover outside at 6 pc 80000018 addr 80000018
 ";
 
+/// The text of an empty file.
 pub const EMPTY_TEXT: &str = "
 == aftersight report
 steps 0

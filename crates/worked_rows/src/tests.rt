@@ -2,6 +2,7 @@
 use crate::guests;
 use after_cli::aftersight_plain;
 use after_edge::{MemoryFiles, MemorySink};
+use guard_run::Closing;
 use std::alloc::Global;
 use std::process::Abort;
 use std::test::Fail;
@@ -121,6 +122,15 @@ fn other_words_are_refused(rt: HostRuntime) -> Result<(), Fail> {
     Ok(())
 }
 
+// How many records were appended and taken, and whether the end is among them.
+fn left_by(closing: Closing) -> (u64, u64, bool) {
+    (
+        closing.appended(),
+        closing.taken(0),
+        closing.facts().is_some(),
+    )
+}
+
 #[test]
 fn sinks_fail(rt: HostRuntime) -> Result<(), Fail> {
     let alloc = rt.alloc();
@@ -152,15 +162,8 @@ fn sinks_fail(rt: HostRuntime) -> Result<(), Fail> {
             err.bytes() == "output failed\n".as_bytes(),
             "put {put} fails after {after}"
         );
-        match outcome.closing {
-            Some(closing) => {
-                assert_eq!(rt; closing.appended(), records, "put {put}: appended");
-                assert_eq!(rt; closing.taken(0), records, "put {put}: taken");
-                let is_ended = closing.facts().is_some();
-                assert_eq!(rt; is_ended, records == 2, "put {put}: the end");
-            }
-            None => panic!(rt; "put {put}: no closing"),
-        }
+        let left = outcome.closing.map(left_by);
+        assert_eq!(rt; left, Some((records, records, records == 2)), "put {put}");
     }
     Ok(())
 }
