@@ -21,7 +21,7 @@ use Rattle.guard_run.specs.declared.closing.Closing.{Closing}
 use Rattle.guard_run.specs.declared.closing.Ending.{Ending}
 use Rattle.guard_run.specs.declared.parts.Parts.{Parts}
 use Rattle.guard_run.specs.declared.replica.Replica.{Replica}
-use Rattle.guard_run.specs.Closings.{Closes, ClosesFront, ClosesWhole, end_back, end_in, facts_at, facts_with}
+use Rattle.guard_run.specs.Closings.{Closes, ClosesFront, ClosesWhole, closing_of, end_back, end_in, facts_at, facts_with}
 use Rattle.guard_run.specs.Course.{Course, IsCourse, run_of, log_of, output_of}
 use Rattle.guard_run.specs.Gates.{issued_by, released_by}
 use Rattle.guard_run.specs.Replicas.{Follows, taken_by}
@@ -29,10 +29,6 @@ use Rattle.guard_run.specs.Runs.{IsEnded, IsStopped}
 use Rattle.guard_run.proofs.CourseLaws.{numbered, reach_whole}
 use Rattle.guard_run.proofs.ItemLaws.{issued_all}
 use Rattle.guard_run.proofs.ListLaws.{single}
-
--- the closing of the parts of a run
-abbrev pub closing_of : Parts → Closing
-closing_of parts = record { hub = parts.hub; replica = parts.replica; gate = parts.gate; end = parts.end }
 
 module _ (c : Course) (core : CoreState) (hub : HubState) (replica : Replica) (f : Follows c core hub replica) (closed : core.closed ≡ true) (taken : taken_by core ≡ core.appended) where
   pub hub_closed : hub.closed ≡ true

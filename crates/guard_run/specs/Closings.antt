@@ -9,8 +9,13 @@ use Rattle.analysis_set.specs.declared.head.RunFacts.{RunFacts}
 use Rattle.analysis_set.specs.Analysis.{HasSeen, made_of}
 use Rattle.guard_run.specs.declared.closing.Ending.{Ending}
 use Rattle.guard_run.specs.declared.closing.Closing.{Closing}
+use Rattle.guard_run.specs.declared.parts.Parts.{Parts}
 use Rattle.guard_run.specs.Course.{Course, run_of, log_of, released_bytes}
 use Rattle.guard_run.specs.Gates.{issued_by, released_by}
+
+-- the closing of the parts of a run
+abbrev pub closing_of : Parts → Closing
+closing_of parts = record { hub = parts.hub; replica = parts.replica; gate = parts.gate; end = parts.end }
 
 -- the ending that a record tells
 abbrev pub end_at : Record → Option Ending

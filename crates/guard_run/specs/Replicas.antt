@@ -1,5 +1,9 @@
 -- A replica beside the hub, where the core stands.
 use Rattle.std.specs.Prelude.{◌≡◌, ℕ, ◌*◌, ◌<◌, true, false, nat_lt, [], ◌∷◌, length, min, take, reverse, slice_index}
+use Rattle.run_events.specs.declared.finding.Kind.{Kind}
+use Rattle.machine_model.specs.Image.{Image}
+use Rattle.machine_model.specs.State.{started}
+use Rattle.analysis_model.specs.Made.{make_of}
 use Rattle.analysis_set.specs.Analysis.{HasSeen, kib_of, made_of}
 use Rattle.replayer.specs.Replays.{Replays}
 use Rattle.gate_core.specs.declared.verdict.Verdict.{Verdict}
@@ -30,6 +34,14 @@ pub record Follows (c : Course) (core : CoreState) (hub : HubState) (replica : R
   pub replays : Replays c.start (reverse (take (taken_by core) (log_of c))) replica.replay
   pub seen : HasSeen replica.analysis (take (reached (plan_of c) (taken_by core)) (run_of c).events)
   pub made : made_of replica.analysis ≡ c.made
+  pub size : length replica.replay.cpu.ram ≡ 1024 * kib_of replica.analysis
+
+-- a replica of this kind, of a guest with this image and this many KiB of RAM, that has taken nothing
+pub record IsFresh (image : Image) (ram_kib : ℕ) (kind : Kind) (reader : ℕ) (replica : Replica) : Type 0 where
+  pub reader_is : replica.reader ≡ reader
+  pub replays : Replays (started image ram_kib) [] replica.replay
+  pub seen : HasSeen replica.analysis []
+  pub made : made_of replica.analysis ≡ make_of kind image
   pub size : length replica.replay.cpu.ram ≡ 1024 * kib_of replica.analysis
 
 -- some course and some state of the core are the replica's

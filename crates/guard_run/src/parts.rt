@@ -6,7 +6,7 @@ ghost use Rattle.gate_core.specs.Core.{CoreState};
 ghost use Rattle.gate_core.specs.Hub.{is_cap};
 ghost use Rattle.output_gate.specs.Gate.{is_full};
 ghost use Rattle.run_events.specs.Record.{number};
-ghost use Rattle.guard_run.specs.Closings.{ClosesFront, ClosesWhole};
+ghost use Rattle.guard_run.specs.Closings.{ClosesFront, ClosesWhole, closing_of};
 ghost use Rattle.guard_run.specs.Gates.{IsMarked, with_item};
 ghost use Rattle.guard_run.specs.Sources.{item_of};
 ghost use Rattle.guard_run.specs.Course.{Course};
@@ -120,10 +120,7 @@ impl Parts {
     pub fn finish(self) -> Closing
         requires closed { self.hub.closed ≡ true }
         requires taken { self.hub.taken ≡ self.hub.appended ∷ [] }
-        ensures hub { result.hub ≡ self.hub }
-        ensures replica { result.replica ≡ self.replica }
-        ensures gate { result.gate ≡ self.gate }
-        ensures end { result.end ≡ self.end }
+        ensures parts { result ≡ closing_of self }
         ensures whole { (c : Course) → IsEnded c self → ClosesWhole c result }
         ensures front { (c : Course) → IsStopped c self → ClosesFront c result }
     {

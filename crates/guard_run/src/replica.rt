@@ -2,14 +2,12 @@
 ghost use Rattle.std.specs.Prelude.{◌≡◌, ◌*◌, ◌≤◌, ◌%◌, [], List, length, IfOk, slice_index};
 ghost use Rattle.run_events.specs.declared.event.Event.{Event};
 ghost use Rattle.machine_model.specs.Image.{IsLoadable};
-ghost use Rattle.machine_model.specs.State.{started};
 ghost use Rattle.analysis_model.specs.Findings.{findings, first_step};
-ghost use Rattle.analysis_model.specs.Made.{code_made_of, kind_made_of, make_of};
-ghost use Rattle.analysis_set.specs.Analysis.{HasSeen, kib_of, made_of};
-ghost use Rattle.replayer.specs.Replays.{Replays};
+ghost use Rattle.analysis_model.specs.Made.{code_made_of, kind_made_of};
+ghost use Rattle.analysis_set.specs.Analysis.{HasSeen, made_of};
 ghost use Rattle.gate_core.specs.Core.{CoreState};
 ghost use Rattle.guard_run.specs.Course.{Course};
-ghost use Rattle.guard_run.specs.Replicas.{Follows, IsFollowing, Turned};
+ghost use Rattle.guard_run.specs.Replicas.{Follows, IsFollowing, IsFresh, Turned};
 ghost use Rattle.guard_run.specs.Verdicts.{verdict_from};
 
 use analysis_set::AnyAnalysis;
@@ -54,11 +52,7 @@ impl Replica {
         requires loadable { IsLoadable (1024 * ram_kib) image.now.segments }
         requires entry { image.now.entry % 4 ≡ 0 }
         requires built { kind ≡ Kind.Cover }
-        ensures reader { IfOk result (λ replica. replica.reader ≡ reader) }
-        ensures replays { IfOk result (λ replica. Replays (started image.now ram_kib) [] replica.replay) }
-        ensures seen { IfOk result (λ replica. HasSeen replica.analysis []) }
-        ensures made { IfOk result (λ replica. made_of replica.analysis ≡ make_of kind image.now) }
-        ensures size { IfOk result (λ replica. length replica.replay.cpu.ram ≡ 1024 * kib_of replica.analysis) }
+        ensures { IfOk result (IsFresh image.now ram_kib kind reader) }
     {
         Ok(Replica {
             replay: Replay::new(alloc, image, ram_kib)?,

@@ -1,5 +1,5 @@
 //! Lists that fit and lists that do not.
-ghost use Rattle.std.specs.Prelude.{◌≡◌, [], length, IfOk, IsTrue};
+ghost use Rattle.std.specs.Prelude.{◌≡◌, ◌≤◌, [], length, IfOk, IsTrue};
 ghost use Rattle.run_events.specs.Record.{IsRecord};
 ghost use Rattle.machine_model.specs.Replay.{is_taken};
 
@@ -72,37 +72,42 @@ fn takes_its_own_log(rt: HostRuntime) -> Result<(), Fail> {
     Ok(())
 }
 
-fn ends(step: u32, cause: EndCause) -> Record {
+fn ends(step: u32, cause: EndCause) -> Record
+    requires { step ≤ 1000000000 }
+    ensures record { IsRecord result }
+    ensures taken { IsTrue (is_taken result) }
+{
     Record::End { step, cause }
 }
 
-// In each case the second record after a first one that the guest's own log has, its fault, and how many steps are done.
 #[test]
-fn refuses_a_foreign_list(rt: HostRuntime) -> Result<(), Fail> {
+fn refuses_a_falling_number(rt: HostRuntime) -> Result<(), Fail> {
     let mark = Record::Reach { step: 3 };
-    for (last, fault, done) in [
-        (Record::Reach { step: 2 }, at(2, Why::StepFalls), 3),
-        (mark, at(3, Why::StepFalls), 3),
-        (
-            ends(5, EndCause::Power { status: 1 }),
-            at(4, Why::EndsElsewhere),
-            5,
-        ),
-        (ends(5, EndCause::Limit), at(4, Why::EndsElsewhere), 5),
-        (ends(3, EndCause::Stuck), at(3, Why::EndsElsewhere), 3),
-        (
-            ends(4, EndCause::Power { status: 0 }),
-            at(4, Why::EndsElsewhere),
-            4,
-        ),
-        (Record::Reach { step: 6 }, at(4, Why::EndsElsewhere), 5),
-    ] {
-        assert_eq!(rt;
-            fed(rt.alloc(), mark, last)?,
-            (fault, done),
-            "then {last:?}"
-        );
-    }
+    let falls = at(2, Why::StepFalls);
+    let stays = at(3, Why::StepFalls);
+    assert_eq!(rt;
+        fed(rt.alloc(), mark, Record::Reach { step: 2 })?,
+        (falls, 3)
+    );
+    assert_eq!(rt; fed(rt.alloc(), mark, mark)?, (stays, 3));
+    Ok(())
+}
+
+#[test]
+fn refuses_a_list_that_ends_elsewhere(rt: HostRuntime) -> Result<(), Fail> {
+    let mark = Record::Reach { step: 3 };
+    let here = at(3, Why::EndsElsewhere);
+    let power = at(4, Why::EndsElsewhere);
+    let other = ends(5, EndCause::Power { status: 1 });
+    let early = ends(4, EndCause::Power { status: 0 });
+    let limit = ends(5, EndCause::Limit);
+    let stuck = ends(3, EndCause::Stuck);
+    let past = Record::Reach { step: 6 };
+    assert_eq!(rt; fed(rt.alloc(), mark, other)?, (power, 5), "another status");
+    assert_eq!(rt; fed(rt.alloc(), mark, early)?, (power, 4), "one step early");
+    assert_eq!(rt; fed(rt.alloc(), mark, limit)?, (power, 5), "the limit");
+    assert_eq!(rt; fed(rt.alloc(), mark, stuck)?, (here, 3), "stuck");
+    assert_eq!(rt; fed(rt.alloc(), mark, past)?, (power, 5), "past the end");
     Ok(())
 }
 

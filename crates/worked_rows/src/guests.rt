@@ -19,6 +19,17 @@ cover pcs 5 ranges 1
 cover range 80000000 80000014
 ";
 
+/// The text of `HELLO`, cut two bytes into a line of its report.
+pub const HELLO_CUT: &str = "\
+H
+== aftersight report
+steps 5
+end power 0
+output 1 released 1
+records 2
+cover findings 0 first none
+co";
+
 /// Writes H and an instruction behind its own file, executes it, and comes to a word that is none.
 pub const OUTGROWN: [u8; 28] = [
     0x37, 0x05, 0x00, 0x10, 0x93, 0x05, 0x80, 0x04, 0x23, 0x00, 0xb5, 0x00, 0xb7, 0x02, 0x00, 0x80,

@@ -1,4 +1,6 @@
 //! Whole runs, refusals and failing sinks.
+ghost use Rattle.std.specs.Prelude.{◌<◌, length};
+
 use crate::guests;
 use after_cli::aftersight_plain;
 use after_edge::{MemoryFiles, MemorySink};
@@ -123,7 +125,9 @@ fn other_words_are_refused(rt: HostRuntime) -> Result<(), Fail> {
 }
 
 // How many records were appended and taken, and whether the end is among them.
-fn left_by(closing: Closing) -> (u64, u64, bool) {
+fn left_by(closing: &Closing) -> (u64, u64, bool)
+    requires { 0 < length closing.now.hub.taken }
+{
     (
         closing.appended(),
         closing.taken(0),
@@ -140,12 +144,7 @@ fn sinks_fail(rt: HostRuntime) -> Result<(), Fail> {
         (2, 0, "H", 2),
         (2, 1, "H\n", 2),
         (3, 5, "H\n== af", 2),
-        (
-            9,
-            2,
-            "H\n== aftersight report\nsteps 5\nend power 0\noutput 1 released 1\nrecords 2\ncover findings 0 first none\nco",
-            2,
-        ),
+        (9, 2, guests::HELLO_CUT, 2),
     ];
     let words = words_of(alloc, &RUN)?;
     for (put, after, text, records) in rows {
@@ -162,8 +161,16 @@ fn sinks_fail(rt: HostRuntime) -> Result<(), Fail> {
             err.bytes() == "output failed\n".as_bytes(),
             "put {put} fails after {after}"
         );
-        let left = outcome.closing.map(left_by);
-        assert_eq!(rt; left, Some((records, records, records == 2)), "put {put}");
+        match &outcome.closing {
+            Some(closing) => {
+                assert_eq!(rt;
+                    left_by(closing),
+                    (records, records, records == 2),
+                    "put {put}"
+                )
+            }
+            None => panic!(rt; "put {put}: no closing"),
+        }
     }
     Ok(())
 }

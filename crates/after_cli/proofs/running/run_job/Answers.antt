@@ -4,6 +4,7 @@ use Rattle.list_laws.specs.Prefix.{IsPrefix}
 use Rattle.gate_core.specs.Hub.{HubState}
 use Rattle.guard_run.specs.Gates.{released_by}
 use Rattle.guard_run.proofs.EndLaws.{released_by_IsPrefix}
+use Rattle.guard_run.specs.declared.closing.Closing.{Closing}
 use Rattle.guard_run.specs.Course.{released_bytes}
 use Rattle.after_cli.specs.Job.{job_course, cover_job, report_text}
 use Rattle.after_cli.proofs.JobLaws.{text-cover_job, report-cover_job, has_course, whole_run}
@@ -21,7 +22,7 @@ returns-in-Err-ran-clause-end g c =
           (AddsPart-front g.O.Sink.holds c.args.out.now c.run_turns-ran.new.out (released_by of count) (released_bytes of) (released_by_IsPrefix of course count) stopped.put));
       rose = c.in-Err-ran.ensures.cause;
       closing_is = inl (record {
-        put = AddsPart-same g.O.Sink.holds c.args.out.now c.run_turns-ran.new.out (ap (λ (hub : HubState). released_by of hub.appended) (sym c.finish-closing.ensures.hub)) stopped.put;
+        put = AddsPart-same g.O.Sink.holds c.args.out.now c.run_turns-ran.new.out (ap (λ (hub : HubState). released_by of hub.appended) (sym (ap (λ (closing : Closing). closing.hub) c.finish-closing.ensures.parts))) stopped.put;
         closes = c.finish-closing.ensures.front of stopped.stopped;
       });
     }
