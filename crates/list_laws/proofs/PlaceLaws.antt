@@ -1,0 +1,8 @@
+-- What stands at a place of a list.
+use Rattle.std.proofs.Common.{◌≡◌, ℕ, zero, suc, List, [], ◌∷◌, drop, Some, slice_get, ap}
+
+-- the first of what is left behind a place stands there
+pub dropped-at : {X : Type 0} (k : ℕ) (xs : List X) (x : X) (rest : List X) → drop k xs ≡ x ∷ rest → slice_get xs k ≡ Some x
+dropped-at zero xs x rest is = ap (λ l. slice_get l 0) is
+dropped-at (suc k) [] x rest is = cc
+dropped-at (suc k) (y ∷ xs) x rest is = dropped-at k xs x rest is
