@@ -1,5 +1,5 @@
 -- Each call of a hub is its event of the core.
-use Rattle.std.proofs.Common.{◌≡◌, ℕ, suc, ◌+◌, ◌-◌, ◌<◌, ◌≤◌, Bool, true, false, cond, nat_eq, nat_lt, List, [], ◌∷◌, ◌++◌, length, take, drop, slice_index, slice_set, slice_get, Option, Some, None, arith, refl, sym, ap, ◌∙◌}
+use Rattle.std.proofs.Common.{◌≡◌, ℕ, ◌+◌, ◌-◌, ◌<◌, ◌≤◌, Bool, true, false, cond, nat_eq, nat_lt, List, [], ◌∷◌, ◌++◌, length, take, drop, slice_index, slice_set, slice_get, Option, Some, None, arith, refl, sym, ap, ◌∙◌}
 use Rattle.std.specs.Prelude.{is_some, option_map}
 use Rattle.std.specs.List.{position}
 use Rattle.std.proofs.lemmas.List.Quantifiers.{position-Some}
@@ -54,8 +54,7 @@ appends plan s posted item sound opened fine next none =
     let all : List Record = take s.appended plan.items in
     let test : is_some (full_of (hub_of plan s posted)) ≡ false = ap is_some none in
     let low : s.appended < length plan.items = slice_get_within plan.items s.appended item next in
-    let one : suc s.appended ≡ s.appended + 1 = omega arith in
-    let longer : all ++ item ∷ [] ≡ take (s.appended + 1) plan.items = sym (take-next s.appended plan.items item next) ∙ ap (λ n. take n plan.items) one in
+    let longer : all ++ item ∷ [] ≡ take (s.appended + 1) plan.items = sym (take-next s.appended plan.items item next) in
     record {
       may = record {
         «open» = opened;

@@ -1,7 +1,7 @@
 -- Fronts of lists, joined and compared.
-use Rattle.std.proofs.Common.{◌≡◌, ℕ, suc, ◌≤◌, List, [], ◌∷◌, ◌++◌, length, take, drop, map, Some, arith, refl, sym, ◌∙◌, ap, append_assoc, append-nil, length-append, take-append-drop, take-suc}
+use Rattle.std.proofs.Common.{◌≡◌, ℕ, ◌≤◌, List, [], ◌∷◌, ◌++◌, length, take, drop, map, Some, arith, refl, sym, ◌∙◌, ap, append_assoc, append-nil, length-append, take-append-drop, ◌+◌}
 use Rattle.std.specs.Prelude.{slice_get}
-use Rattle.std.proofs.lemmas.List.{map-append, take-append-le}
+use Rattle.std.proofs.lemmas.List.{map-append, take-append-le, take_more}
 use Rattle.std.proofs.lemmas.Option.{get_or_from_slice_get, slice_get_within}
 use Rattle.list_laws.specs.Prefix.{IsPrefix}
 
@@ -42,5 +42,5 @@ pub IsPrefix-take : {X : Type 0} (k : ℕ) (front whole : List X) → IsPrefix f
 IsPrefix-take k front whole p le = sym (take-append-le k front p.rest le) ∙ ap (take k) p.joined
 
 -- one item more of a list
-pub take-next : {X : Type 0} (k : ℕ) (xs : List X) (x : X) → slice_get xs k ≡ Some x → take (suc k) xs ≡ take k xs ++ x ∷ []
-take-next k xs x is = take-suc xs k x (slice_get_within xs k x is) ∙ ap (λ y. take k xs ++ y ∷ []) (get_or_from_slice_get xs k x x is)
+pub take-next : {X : Type 0} (k : ℕ) (xs : List X) (x : X) → slice_get xs k ≡ Some x → take (k + 1) xs ≡ take k xs ++ x ∷ []
+take-next k xs x is = take_more xs k x (slice_get_within xs k x is) ∙ ap (λ y. take k xs ++ y ∷ []) (get_or_from_slice_get xs k x x is)
