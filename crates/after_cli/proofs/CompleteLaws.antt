@@ -1,5 +1,6 @@
 -- Where the files tell the content of a run, every answer but its own is ruled out.
 use Rattle.std.proofs.Common.{◌≡◌, inl, inr, ⊎_elim, ℕ, ◌<◌, ◌≤◌, true, false, List, [], length, Option, Some, None, refl, sym, subst, ap, ◌∙◌, arith}
+use Rattle.std.proofs.lemmas.Option.{same_Some, none-some}
 use Rattle.after_edge.specs.Fault.{Rose}
 use Rattle.after_edge.specs.Files.{Contents, IsAbsent}
 use Rattle.after_edge.specs.Sink.{Adds}
@@ -35,14 +36,8 @@ module _ (content : Option Contents) (words : List (List ℕ)) (file : List ℕ)
   not_absent : (name bytes : List ℕ) → run.files name ≡ Some bytes → IsAbsent content name → ⊥
   not_absent name bytes here absent =
       let same : ◌≡◌ {A = Option Contents} (Some absent.files) (Some run.files) = sym absent.told ∙ run.told in
-      let none : run.files name ≡ None = subst (λ (files : Contents). files name ≡ None) (some_same absent.files run.files same) absent.none in
-      absurd_option bytes (sym none ∙ here)
-    where
-      some_same : (a b : Contents) → ◌≡◌ {A = Option Contents} (Some a) (Some b) → a ≡ b
-      some_same a b e = cc
-
-      absurd_option : (bytes : List ℕ) → ◌≡◌ {A = Option (List ℕ)} None (Some bytes) → ⊥
-      absurd_option bytes e = cc
+      let none : run.files name ≡ None = subst (λ (files : Contents). files name ≡ None) (same_Some absent.files run.files same) absent.none in
+      none-some bytes (sym none ∙ here)
 
   not_too_long : (name bytes : List ℕ) (max : ℕ) → run.files name ≡ Some bytes → length bytes ≤ max → IsTooLong content name max → ⊥
   not_too_long name bytes max here within long =

@@ -1,5 +1,6 @@
 -- What the two reads of a run's files say together.
-use Rattle.std.proofs.Common.{◌≡◌, inl, inr, ℕ, ◌≤◌, List, [], ◌∷◌, length, Option, Some, Err, refl, subst, ◌∙◌, ap, arith}
+use Rattle.std.proofs.Common.{◌≡◌, inl, inr, ℕ, ◌≤◌, List, [], length, Option, Some, Err, subst, ◌∙◌, ap, arith}
+use Rattle.std.proofs.lemmas.List.{nil_from_length}
 use Rattle.after_edge.specs.declared.reading.FileFault.{FileFault}
 use Rattle.after_edge.specs.declared.reading.FileFault.TheVariants.{Absent, Failed, TooLong, NoMemory}
 use Rattle.after_edge.specs.Files.{Contents, IfTold}
@@ -16,13 +17,9 @@ script_refused V content image script file before between now Failed read later 
 script_refused V content image script file before between now (TooLong max) read later cause = inr (inl (file, read, cause.1))
 script_refused V content image script file before between now NoMemory read later cause = tt
 
-nothing : (bytes : List ℕ) → length bytes ≤ 0 → bytes ≡ []
-nothing [] le = refl
-nothing (x ∷ bytes) le = absurd (omega arith)
-
 -- a file of at most no bytes is empty
 pub read_empty : (content : Option Contents) (name bytes : List ℕ) → IfTold content (λ files. files name ≡ Some bytes) → length bytes ≤ 0 → IsRead content name script_max []
-read_empty content name bytes told le = record { told = λ files is. told files is ∙ ap Some (nothing bytes le); within = omega arith }
+read_empty content name bytes told le = record { told = λ files is. told files is ∙ ap Some (nil_from_length bytes (omega (arith, le))); within = omega arith }
 
 -- the same where the files between the two reads tell what they told before
 pub script_refused_later : (V : Type 0) (content mid : Option Contents) (image script file : List ℕ) (before between now : ℕ) (fault : FileFault) → mid ≡ content → IsRead content image image_max file → before ≤ between

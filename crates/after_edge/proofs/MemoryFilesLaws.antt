@@ -1,16 +1,16 @@
 -- The entry of a name: where it is found, and what a change of it leaves.
-use Rattle.std.proofs.Common.{◌≡◌, ◌≢◌, ℕ, suc, zero, ◌+◌, ◌-◌, ◌<◌, ◌≤◌, List, [], ◌∷◌, ◌++◌, length, get_or, set, Bool, true, false, Option, Some, None, is_some, take, drop, not, unwrap_or, inl, inr, refl, sym, ◌∙◌, ap, subst, arith, cond, nat_lt}
+use Rattle.std.proofs.Common.{◌≡◌, ◌≢◌, ℕ, suc, zero, ◌+◌, ◌-◌, ◌<◌, ◌≤◌, List, [], ◌∷◌, ◌++◌, length, get_or, set, Bool, true, false, Option, Some, None, is_some, take, not, unwrap_or, inl, inr, refl, sym, ◌∙◌, ap, subst, arith, cond, nat_lt}
 use Rattle.std.specs.List.{position, position_or_len}
 use Rattle.std.specs.Option.{option_map, option_and_then}
 use Rattle.std.specs.Str.{bytes_eq}
 use Rattle.std.proofs.lemmas.List.Quantifiers.{position-Some}
 use Rattle.std.proofs.lemmas.Slice.Eq.{bytes_eq-Decides}
-use Rattle.std.proofs.lemmas.List.{take-append-drop, take_all}
+use Rattle.std.proofs.lemmas.List.{take_all}
 use Rattle.std.proofs.lemmas.List.Folds.{find_at}
 use Rattle.std.proofs.lemmas.Option.{slice_get_cases}
-use Rattle.std.proofs.lemmas.Bool.{cond_below}
-use Rattle.std.proofs.lemmas.Bool.Decides.{nat_tests}
-use Rattle.list_laws.specs.Prefix.{IsPrefix}
+use Rattle.std.proofs.lemmas.Bool.{cond_below, not-true, ltb-false}
+use Rattle.list_laws.proofs.OptionLaws.{none_from_is_some}
+use Rattle.list_laws.proofs.PrefixLaws.{take_IsPrefix}
 use Rattle.after_edge.specs.Files.{Contents, ChangesTold, Changes, IsBegun, MayBeBegun, IsAppended, MayBeAppended}
 use Rattle.after_edge.specs.MemoryFiles.{Kept, is_named, entry_of, file_of, changed, changed_or_added, begun, bytes_of, appended, passes_room, has_no_place, HasRoom}
 
@@ -121,13 +121,10 @@ file_before text entries entry found = ap (λ e. option_and_then (λ (kept : Kep
 Changes-begun : (text : List ℕ) (entries : List Kept) (entry : Kept) → entry_of entries text ≡ Some entry → Changes (Some (file_of entries)) (Some (file_of (changed begun text entries))) text IsBegun
 Changes-begun text entries entry found = Changes-told _ _ text IsBegun (record { here = file_here begun (λ e. refl) text entries entry found; others = others_stay begun (λ e. refl) text entries })
 
-fits_room : (room long more : ℕ) → nat_lt room (long + more) ≡ false → more ≤ room - long
-fits_room room long more fits = grind (arith, nat_tests)
-
 -- an append of what fits, and of the part that fits
 Changes-appended : (text piece : List ℕ) (entries : List Kept) (entry : Kept) → entry_of entries text ≡ Some entry → passes_room piece entry ≡ false → Changes (Some (file_of entries)) (Some (file_of (changed (appended piece) text entries))) text (IsAppended piece)
 Changes-appended text piece entries entry found fits =
-    let all = take_all (entry.room - length (bytes_of entry)) piece (fits_room entry.room (length (bytes_of entry)) (length piece) fits) in
+    let all = take_all (entry.room - length (bytes_of entry)) piece (omega (arith, ltb-false entry.room (length (bytes_of entry) + length piece) fits)) in
     let after = file_here (appended piece) (λ e. refl) text entries entry found in
     let before = ap (λ was. Some (unwrap_or was [] ++ piece)) (sym (file_before text entries entry found)) in
     Changes-told _ _ text (IsAppended piece) (record { here = after ∙ ap (λ l. Some (bytes_of entry ++ l)) all ∙ before; others = others_stay (appended piece) (λ e. refl) text entries })
@@ -135,26 +132,17 @@ Changes-appended text piece entries entry found fits =
 Changes-part : (text piece : List ℕ) (entries : List Kept) (entry : Kept) → entry_of entries text ≡ Some entry → Changes (Some (file_of entries)) (Some (file_of (changed (appended piece) text entries))) text (MayBeAppended piece)
 Changes-part text piece entries entry found =
     let part = take (entry.room - length (bytes_of entry)) piece in
-    let front : IsPrefix part piece = record { rest = drop (entry.room - length (bytes_of entry)) piece; joined = take-append-drop _ piece } in
     let after = file_here (appended piece) (λ e. refl) text entries entry found in
     let before = ap (λ was. Some (unwrap_or was [] ++ part)) (sym (file_before text entries entry found)) in
-    Changes-told _ _ text (MayBeAppended piece) (record { here = inr (part, front, after ∙ before); others = others_stay (appended piece) (λ e. refl) text entries })
+    Changes-told _ _ text (MayBeAppended piece) (record { here = inr (part, take_IsPrefix (entry.room - length (bytes_of entry)) piece, after ∙ before); others = others_stay (appended piece) (λ e. refl) text entries })
 
 some_entry : (found : Option Kept) → is_some found ≡ true → (entry : Kept) × (found ≡ Some entry)
 some_entry None is = absurd (cc)
 some_entry (Some entry) is = (entry, refl)
 
-not_true : (b : Bool) → not b ≡ true → b ≡ false
-not_true true is = absurd (cc)
-not_true false is = refl
-
 placed_entry : (piece : List ℕ) (found : Option Kept) → not (has_no_place piece found) ≡ true → (entry : Kept) × (found ≡ Some entry) × (passes_room piece entry ≡ false)
 placed_entry piece None is = absurd (cc)
-placed_entry piece (Some entry) is = (entry, refl, not_true (passes_room piece entry) is)
-
-no_entry : (found : Option Kept) → is_some found ≡ false → found ≡ None
-no_entry None is = refl
-no_entry (Some entry) is = absurd (cc)
+placed_entry piece (Some entry) is = (entry, refl, not-true (passes_room piece entry) is)
 
 append_step : (text piece : List ℕ) (entries : List Kept) (found : Option Kept) → entry_of entries text ≡ found → Changes (Some (file_of entries)) (Some (file_of (changed (appended piece) text entries))) text (MayBeAppended piece)
 append_step text piece entries None is =
@@ -172,7 +160,7 @@ module _ (text : List ℕ) (before entries after : List Kept) (same : entries �
 
   pub begin-err : after ≡ changed begun text entries → is_some (entry_of entries text) ≡ false → Changes (Some (file_of before)) (Some (file_of after)) text MayBeBegun
   begin-err is none =
-      let unchanged = changed-missing begun text entries (no_entry (entry_of entries text) none) in
+      let unchanged = changed-missing begun text entries (none_from_is_some (entry_of entries text) none) in
       let P : List Kept → Type 0 = λ es. Changes (Some (file_of before)) (Some (file_of es)) text MayBeBegun in
       subst P (sym (is ∙ unchanged ∙ same)) (Changes-none (Some (file_of before)) text MayBeBegun (λ was. inl refl))
 

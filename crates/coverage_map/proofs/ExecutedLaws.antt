@@ -1,6 +1,6 @@
 -- The ranges of marked words ascend, lie apart, and have exactly the executed bytes.
 use Rattle.std.proofs.Common.{◌≡◌, ℕ, ◌+◌, ◌<◌, ◌≤◌, Bool, true, false, ◌&&◌, ◌||◌, nat_le, nat_lt, List, [], ◌∷◌, refl, sym, ap, ◌∙◌, arith, inl, inr}
-use Rattle.std.proofs.Math.Bool.{or_assoc}
+use Rattle.std.proofs.Math.Bool.{or_assoc, or_self_left}
 use Rattle.std.specs.List.{filter_map, list_any}
 use Rattle.std.proofs.lemmas.Bool.{cases_lt, cases_order}
 use Rattle.std.proofs.lemmas.Bool.Decides.{nat_tests}
@@ -48,14 +48,8 @@ AscendFrom-runs address (pc ∷ pcs) w = AscendFrom-joined address pc (runs pcs)
 bytes_joined : (b pc : ℕ) (span : Span) → pc + 4 ≡ span.from → span.from < span.to → (nat_le pc b && nat_lt b span.to) ≡ (is_byte_of b pc || (nat_le span.from b && nat_lt b span.to))
 bytes_joined b pc span e h = grind (arith, nat_tests)
 
-or_same : (a c : Bool) → (a || c) ≡ (a || (a || c))
-or_same true c = refl
-or_same false c = refl
-
 or_swap : (a b c : Bool) → (a || (b || c)) ≡ (b || (a || c))
-or_swap true true c = refl
-or_swap true false c = refl
-or_swap false b c = refl
+or_swap a b c = grind arith
 
 -- a word adds its bytes
 is_within-joined : (b pc : ℕ) (spans : List Span) → AscendFrom (pc + 4) spans → is_within (joined pc spans) b ≡ (is_byte_of b pc || is_within spans b)
@@ -78,7 +72,7 @@ list_any-with_member : (p : ℕ → Bool) (new : ℕ) (xs : List ℕ) → list_a
 list_any-with_member p new [] = refl
 list_any-with_member p new (x ∷ xs) =
     elim (cases_order new x) [
-      | inl same ↦ ap (list_any p) (with_member-same new x xs same) ∙ or_same (p x) (list_any p xs) ∙ ap (λ y. p y || (p x || list_any p xs)) (sym same)
+      | inl same ↦ ap (list_any p) (with_member-same new x xs same) ∙ sym (or_self_left (p x) (list_any p xs)) ∙ ap (λ y. p y || (p x || list_any p xs)) (sym same)
       | inr (inl before) ↦ ap (list_any p) (with_member-before new x xs before)
       | inr (inr behind) ↦ ap (list_any p) (with_member-behind new x xs behind) ∙ ap (λ rest. p x || rest) (list_any-with_member p new xs) ∙ or_swap (p x) (p new) (list_any p xs)
     ]

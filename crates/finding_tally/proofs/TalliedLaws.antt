@@ -1,15 +1,14 @@
 -- A tally with one finding more.
-use Rattle.std.proofs.Common.{◌≡◌, ℕ, zero, suc, ◌+◌, ◌-◌, ◌^◌, ◌<◌, ◌≤◌, min, List, [], ◌∷◌, ◌++◌, Some, unwrap_or, length, take, set, refl, sym, ap, ◌∙◌, arith, length-append}
-use Rattle.std.proofs.lemmas.List.{take_more_set, length-take, take_all, take-append-le}
+use Rattle.std.proofs.Common.{◌≡◌, ℕ, ◌+◌, ◌-◌, ◌^◌, ◌<◌, ◌≤◌, min, List, [], ◌∷◌, ◌++◌, Some, unwrap_or, length, take, set, refl, sym, ◌∙◌, arith, length-append}
+use Rattle.std.proofs.lemmas.Bool.{cases_lt}
+use Rattle.std.proofs.lemmas.List.{take_more_set, length-take, take_all, take-append-le, take-take}
 use Rattle.run_events.specs.declared.finding.Finding.{Finding}
 use Rattle.analysis_model.specs.Findings.{first_step, tally}
 use Rattle.finding_tally.specs.Tallied.{Tallied, Tallies, with_finding}
 
 -- a front of a front with more behind it
 take_front : (n : ℕ) (xs ys : List Finding) → take n (take n xs ++ ys) ≡ take n (xs ++ ys)
-take_front zero xs ys = refl
-take_front (suc n) [] ys = refl
-take_front (suc n) (x ∷ xs) ys = ap (λ l. x ∷ l) (take_front n xs ys)
+take_front n xs ys = grind (arith, cases_lt n (length xs), take-append-le, take_all, length-take, take-take)
 
 first_more : (found : List Finding) (finding : Finding) → Some (unwrap_or (first_step found) finding.step) ≡ first_step (found ++ finding ∷ [])
 first_more [] finding = refl

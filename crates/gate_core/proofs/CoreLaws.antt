@@ -1,46 +1,21 @@
 -- Every event of the core keeps a sound state sound.
-use Rattle.std.proofs.Common.{◌≡◌, ◌⊎◌, ℕ, ◌+◌, ◌-◌, ◌<◌, ◌≤◌, inl, inr, Bool, true, false, ◌&&◌, ◌||◌, nat_eq, nat_lt, List, [], ◌∷◌, ◌++◌, length, take, drop, reverse, slice_index, slice_set, arith, refl, sym, ap, subst, ◌∙◌, zero, suc}
-use Rattle.std.proofs.lemmas.List.{length-drop, length-reverse, length-replicate, length-set, reverse-append, take-append-drop, drop_at, get_or-replicate}
-use Rattle.std.proofs.lemmas.Bool.{cases_lt}
+use Rattle.std.proofs.Common.{◌≡◌, ◌⊎◌, ℕ, ◌+◌, ◌-◌, ◌<◌, ◌≤◌, inl, inr, Bool, true, false, List, [], ◌∷◌, ◌++◌, length, take, drop, reverse, slice_index, slice_set, arith, refl, sym, ap, subst, ◌∙◌, zero, suc}
+use Rattle.std.proofs.Math.Seq.{drop-nil}
+use Rattle.std.proofs.lemmas.List.{length-drop, length-reverse, length-replicate, length-set, reverse-append, take-append-drop, drop_at, get_or-replicate, get_or-set_same, get_or-set_other, set_past}
+use Rattle.std.proofs.lemmas.Bool.{cases_lt, cases_eq, and_parts}
 use Rattle.run_events.specs.declared.record.Record.{Record}
-use Rattle.run_events.specs.Record.{number, is_admitted, is_ordered_back, is_ordered, reach_back, reach}
+use Rattle.run_events.proofs.RecordLaws.{admitted_rises}
+use Rattle.run_events.specs.Record.{is_admitted, is_ordered_back, is_ordered, reach_back, reach}
 use Rattle.gate_core.specs.Core.{Plan, CoreState, CoreEvent, Append, Close, TakeNext, Post, Release, Break, reached, IsPlan, opening, IsShown, IsReleasable, MayAppend, May, approves, after_event, Leads, IsSoundAt, IsSound, StaysSound}
 
--- a record that is admitted has no smaller number
-admitted_rises : (a b : ℕ) (first rest : Bool) → (first && (nat_lt a b || (nat_eq a b && rest))) ≡ true → a ≤ b
-admitted_rises a b first rest h = grind arith
-
-both_left : (a b : Bool) → (a && b) ≡ true → a ≡ true
-both_left true b h = refl
-both_left false b h = h
-
-both_right : (a b : Bool) → (a && b) ≡ true → b ≡ true
-both_right true b h = h
-both_right false b h = grind arith
-
--- of records that are read from the last one back, the last has the largest number
-last_is_largest : (item : Record) (before : List Record) → is_ordered_back (item ∷ before) ≡ true → reach_back before ≤ number item
-last_is_largest item [] h = omega arith
-last_is_largest item (last ∷ before) h = admitted_rises (number last) (number item) _ _ (both_left _ _ h)
-
-drop_from_none : (k : ℕ) → reach_back (drop k []) ≡ 0
-drop_from_none zero = refl
-drop_from_none (suc k) = refl
-
-falls_at_once : (item : Record) (before : List Record) (j : ℕ) → j ≤ 0 → number item ≤ reach_back (drop j (item ∷ before))
-falls_at_once item before zero low = omega arith
-falls_at_once item before (suc j) low = absurd (omega arith)
-
 reach_falls : (items : List Record) → is_ordered_back items ≡ true → (j k : ℕ) → j ≤ k → reach_back (drop k items) ≤ reach_back (drop j items)
-reach_falls [] h j k low = omega (arith, drop_from_none j, drop_from_none k)
-reach_falls (item ∷ before) h j zero low = falls_at_once item before j low
+reach_falls [] h j k low = omega (arith, ap reach_back (drop-nil j), ap reach_back (drop-nil k))
+reach_falls (item ∷ before) h zero zero low = omega arith
+reach_falls (item ∷ before) h (suc j) zero low = absurd (omega (arith, low))
 reach_falls (item ∷ before) h zero (suc k) low =
-    let below : 0 ≤ k = omega arith in
-    let rest_ordered : is_ordered_back before ≡ true = both_right (is_admitted before item) (is_ordered_back before) h in
-    let rest : reach_back (drop k before) ≤ reach_back before = reach_falls before rest_ordered zero k below in
-    let last : reach_back before ≤ number item = last_is_largest item before h in
-    omega arith
-reach_falls (item ∷ before) h (suc j) (suc k) low = reach_falls before (both_right _ _ h) j k (omega arith)
+    let parts = and_parts (is_admitted before item) (is_ordered_back before) h in
+    omega (arith, admitted_rises before item parts.0, reach_falls before parts.1 zero k (omega arith))
+reach_falls (item ∷ before) h (suc j) (suc k) low = reach_falls before (and_parts (is_admitted before item) (is_ordered_back before) h).1 j k (omega arith)
 
 reverse_take : {X : Type 0} (n : ℕ) (xs : List X) → reverse (take n xs) ≡ drop (length xs - n) (reverse xs)
 reverse_take n xs =
@@ -55,16 +30,10 @@ reach_rises items h m n low =
 
 -- what is true of each number of a list stays so where one is replaced
 set_keeps : (P : ℕ → ℕ → Type 0) (xs : List ℕ) (i y : ℕ) → ((k : ℕ) → k < length xs → P k (slice_index xs k)) → P i y → (k : ℕ) → k < length xs → P k (slice_index (slice_set xs i y) k)
-set_keeps P [] i y all here k low = absurd (omega arith)
-set_keeps P (x ∷ xs) zero y all here k low = elim k as (λ n. n < length (x ∷ xs) → P n (slice_index (y ∷ xs) n)) [ zero ↦ λ _. here | suc n ↦ λ below. all (suc n) below ] low
-set_keeps P (x ∷ xs) (suc i) y all here zero low = all zero low
-set_keeps P (x ∷ xs) (suc i) y all here (suc k) low = set_keeps (λ n. P (suc n)) xs i y (λ n below. all (suc n) (omega arith)) here k (omega arith)
+set_keeps P xs i y all here k low = grind (arith, get_or-set_same, get_or-set_other, cases_eq k i, all k low)
 
 set_grows : (xs : List ℕ) (i y : ℕ) → slice_index xs i ≤ y → (k : ℕ) → slice_index xs k ≤ slice_index (slice_set xs i y) k
-set_grows [] i y low k = omega arith
-set_grows (x ∷ xs) zero y low k = elim k as (λ n. slice_index (x ∷ xs) n ≤ slice_index (y ∷ xs) n) [ zero ↦ low | suc n ↦ omega arith ]
-set_grows (x ∷ xs) (suc i) y low zero = omega arith
-set_grows (x ∷ xs) (suc i) y low (suc k) = set_grows xs i y low k
+set_grows xs i y low k = grind (arith, get_or-set_same, get_or-set_other, set_past, cases_eq k i, cases_lt i (length xs))
 
 opening_IsSound : (plan : Plan) → IsSound plan (opening plan)
 opening_IsSound plan =

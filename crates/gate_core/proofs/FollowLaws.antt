@@ -1,11 +1,12 @@
 -- Each call of a hub is its event of the core.
-use Rattle.std.proofs.Common.{◌≡◌, ℕ, zero, suc, ◌+◌, ◌-◌, ◌<◌, ◌≤◌, Bool, true, false, cond, nat_eq, nat_lt, List, [], ◌∷◌, ◌++◌, length, take, drop, slice_index, slice_set, slice_get, Option, Some, None, arith, refl, sym, ap, subst, ◌∙◌}
+use Rattle.std.proofs.Common.{◌≡◌, ℕ, ◌+◌, ◌-◌, ◌<◌, ◌≤◌, Bool, true, false, cond, nat_eq, nat_lt, List, [], ◌∷◌, ◌++◌, length, take, drop, slice_index, slice_set, slice_get, Option, Some, None, arith, refl, sym, ap, ◌∙◌}
 use Rattle.std.specs.Prelude.{is_some, option_map}
 use Rattle.std.specs.List.{position}
 use Rattle.std.proofs.lemmas.List.Quantifiers.{position-Some}
 use Rattle.std.proofs.lemmas.List.{length-drop, length-take-le, drop-append-le, drop-drop, length_push, map-set}
 use Rattle.std.proofs.lemmas.Option.{slice_get_within}
 use Rattle.circular_buffer.specs.Buffer.{keep_last}
+use Rattle.circular_buffer.proofs.Places.{slice_get-take, slice_get-drop}
 use Rattle.list_laws.proofs.PrefixLaws.{take-next}
 use Rattle.run_events.specs.declared.record.Record.{Record}
 use Rattle.gate_core.specs.declared.full.Full.{Full}
@@ -14,18 +15,6 @@ use Rattle.gate_core.specs.Core.{Plan, CoreState, approves}
 use Rattle.gate_core.specs.Hub.{HubState, hub_state, full_of, full_at}
 use Rattle.gate_core.specs.Follow.{hub_of, approvals, Appends, Refuses, Takes, Posts}
 use Rattle.gate_core.proofs.HubLaws.{room_left}
-
--- what is found in a part is found in the whole
-from_taken : {X : Type 0} (n : ℕ) (xs : List X) (i : ℕ) (x : X) → slice_get (take n xs) i ≡ Some x → slice_get xs i ≡ Some x
-from_taken zero xs i x is = cc
-from_taken (suc n) [] i x is = cc
-from_taken (suc n) (y ∷ ys) zero x is = is
-from_taken (suc n) (y ∷ ys) (suc i) x is = from_taken n ys i x is
-
-from_dropped : {X : Type 0} (k : ℕ) (xs : List X) (i : ℕ) (x : X) → slice_get (drop k xs) i ≡ Some x → slice_get xs (k + i) ≡ Some x
-from_dropped zero xs i x is = subst (λ j. slice_get xs j ≡ Some x) (let e : i ≡ 0 + i = omega arith in e) is
-from_dropped (suc k) [] i x is = cc
-from_dropped (suc k) (y ∷ ys) i x is = subst (λ j. slice_get (y ∷ ys) j ≡ Some x) (let e : suc (k + i) ≡ suc k + i = omega arith in e) (from_dropped k ys i x is)
 
 -- the last records of those kept and one more are the last of all of them
 keep_more : {X : Type 0} (n : ℕ) (xs : List X) (x : X) → keep_last n (keep_last n xs ++ x ∷ []) ≡ keep_last n (xs ++ x ∷ [])
@@ -65,8 +54,7 @@ appends plan s posted item sound opened fine next none =
     let all : List Record = take s.appended plan.items in
     let test : is_some (full_of (hub_of plan s posted)) ≡ false = ap is_some none in
     let low : s.appended < length plan.items = slice_get_within plan.items s.appended item next in
-    let one : suc s.appended ≡ s.appended + 1 = omega arith in
-    let longer : all ++ item ∷ [] ≡ take (s.appended + 1) plan.items = sym (take-next s.appended plan.items item next) ∙ ap (λ n. take n plan.items) one in
+    let longer : all ++ item ∷ [] ≡ take (s.appended + 1) plan.items = sym (take-next s.appended plan.items item next) in
     record {
       may = record {
         «open» = opened;
@@ -106,9 +94,9 @@ takes plan s posted reader item sound low gives =
     let long : length all ≡ s.appended = length-take-le s.appended plan.items sound.appended in
     let kept : length (keep_last plan.cap all) ≡ length all - (length all - plan.cap) = length-drop (length all - plan.cap) all in
     let room : s.appended ≤ count + plan.cap = (sound.readers reader low).room in
-    let place : (length all - plan.cap) + (length (keep_last plan.cap all) + count - s.appended) ≡ count = omega (arith, long, kept, room, behind) in
+    let place : count ≡ (length all - plan.cap) + (length (keep_last plan.cap all) + count - s.appended) = omega (arith, long, kept, room, behind) in
     let moves : nat_lt count s.appended ≡ true = grind (arith, behind) in
-    let found = from_taken s.appended plan.items count item (subst (λ j. slice_get all j ≡ Some item) place (from_dropped (length all - plan.cap) all (length (keep_last plan.cap all) + count - s.appended) item here)) in
+    let found = sym (slice_get-take s.appended plan.items count behind) ∙ sym (slice_get-drop (length all - plan.cap) all (length (keep_last plan.cap all) + count - s.appended) count place) ∙ here in
     (record { may = (low, behind); after = ap (taken_after plan s posted reader) moves }, found)
 
 pub posts : Posts

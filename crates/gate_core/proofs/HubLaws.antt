@@ -1,21 +1,15 @@
 -- What an append keeps.
-use Rattle.std.proofs.Common.{◌≡◌, ℕ, ◌+◌, ◌-◌, ◌<◌, ◌≤◌, Bool, IsTrue, true, false, not, cond, nat_eq, nat_lt, List, [], ◌∷◌, ◌++◌, length, min, slice_index, slice_index_or, None, Some, option_map, arith, refl, sym, subst, slice_get, zero, suc}
+use Rattle.std.proofs.Common.{◌≡◌, ℕ, ◌+◌, ◌-◌, ◌<◌, ◌≤◌, Bool, IsTrue, true, false, cond, nat_eq, nat_lt, List, [], ◌∷◌, ◌++◌, length, min, slice_index, None, Some, option_map, arith, refl, slice_get}
 use Rattle.std.proofs.lemmas.List.{length-drop, length_push}
-use Rattle.std.proofs.lemmas.List.Sums.{prefix_len_passes}
-use Rattle.std.proofs.lemmas.List.Elements.{All-append, All-drop}
-use Rattle.std.proofs.lemmas.Option.{get_or_from_slice_get, slice_get_within}
+use Rattle.std.proofs.lemmas.List.Sums.{fails_before_first}
+use Rattle.std.proofs.lemmas.List.Elements.{All-drop, All-push}
 use Rattle.std.specs.List.{All, position_or_len}
 use Rattle.circular_buffer.specs.Buffer.{keep_last}
+use Rattle.list_laws.proofs.PlaceLaws.{all-at}
 use Rattle.run_events.specs.declared.record.Record.{Record}
 use Rattle.run_events.specs.Record.{IsRecord}
 use Rattle.gate_core.specs.declared.verdict.Verdict.{Verdict}
 use Rattle.gate_core.specs.Hub.{IsHub, IsWithin, hub_state, full_at, is_cap}
-
--- no place before the first one passes
-pub none_before : {X : Type 0} (p : X → Bool) (xs : List X) (k : ℕ) (d : X) → k < position_or_len p xs → p (slice_index_or xs k d) ≡ false
-none_before p xs k d low =
-    let other : not (p (slice_index_or xs k d)) ≡ true = prefix_len_passes (λ x. not (p x)) xs k d low in
-    elim (p (slice_index_or xs k d)) as (λ b. not b ≡ true → b ≡ false) [ true ↦ λ h. sym h | false ↦ λ h. refl ] other
 
 -- where no place is named, none was found
 pub none_found : {X Y : Type 0} (f : X → Y) (low found : Bool) (x : X) → low ≡ false → None ≡ cond low None (option_map f (cond found (Some x) None)) → found ≡ false
@@ -32,7 +26,7 @@ room_left counts total n none reader low within =
     let high : nat_lt total n ≡ false = grind arith in
     let found : nat_lt (position_or_len passes counts) (length counts) ≡ false = none_found _ _ _ _ high none in
     let before : reader < position_or_len passes counts = grind arith in
-    let other : nat_eq (slice_index counts reader) (total - n) ≡ false = none_before passes counts reader 0 before in
+    let other : nat_eq (slice_index counts reader) (total - n) ≡ false = fails_before_first passes counts reader 0 before in
     grind arith in
     let first : slice_index counts reader ≤ total + 1 = omega arith in
     let second : total + 1 ≤ slice_index counts reader + n = omega arith in
@@ -45,15 +39,9 @@ stored_more n total items item was =
     let left : length (keep_last n (items ++ item ∷ [])) ≡ length (items ++ item ∷ []) - (length (items ++ item ∷ []) - n) = length-drop _ _ in
     omega arith
 
--- what is stored stays within what there is a spelling for
-only_records : (n : ℕ) (items : List Record) (item : Record) → All IsRecord items → IsRecord item → All IsRecord (keep_last n (items ++ item ∷ []))
-only_records n items item was new =
-    let one : All IsRecord (item ∷ []) = λ k d low. elim k as (λ j. j < 1 → IsRecord (slice_index_or (item ∷ []) j d)) [ zero ↦ λ _. new | suc j ↦ λ below. absurd (omega arith) ] low in
-    All-drop IsRecord (length (items ++ item ∷ []) - n) (items ++ item ∷ []) (All-append IsRecord items (item ∷ []) was one)
-
 -- a record that is found among such is such a one
 pub stored_record : (items : List Record) (place : ℕ) (item : Record) → All IsRecord items → slice_get items place ≡ Some item → IsRecord item
-stored_record items place item all here = subst IsRecord (get_or_from_slice_get items place item item here) (all place item (slice_get_within items place item here))
+stored_record items place item all here = all-at IsRecord place items item all here
 
 pub cap_bound : (n : ℕ) → IsTrue (is_cap n) → n ≤ 65536
 cap_bound n h = grind arith
@@ -67,7 +55,7 @@ append-IsHub n total items counts posted ended item was few none new = record {
   readers = was.readers;
   verdicts = was.verdicts;
   stored = stored_more n total items item was.stored;
-  records = only_records n items item was.records new;
+  records = All-drop IsRecord (length (items ++ item ∷ []) - n) (items ++ item ∷ []) (All-push IsRecord items item was.records new);
   appended = omega arith;
   taken = λ reader low. room_left counts total n none reader low (was.taken reader low);
 }

@@ -1,7 +1,8 @@
 -- A turn of the recorder, where the core stands.
-use Rattle.std.proofs.Common.{◌≡◌, inl, inr, ℕ, ◌+◌, ◌-◌, ◌≤◌, Bool, true, false, [], ◌∷◌, length, take, Some, None, sym, ap, subst, ◌∙◌, arith, refl}
-use Rattle.std.specs.Prelude.{◌&&◌, nat_eq, is_some, IfSome, slice_index}
+use Rattle.std.proofs.Common.{◌≡◌, inl, inr, ◌+◌, ◌-◌, ◌≤◌, true, false, [], ◌∷◌, length, take, Some, None, sym, ap, subst, ◌∙◌, arith}
+use Rattle.std.specs.Prelude.{◌&&◌, is_some, IfSome, slice_index}
 use Rattle.std.proofs.lemmas.List.{reverse-append}
+use Rattle.std.proofs.lemmas.Bool.{and_parts, eqb-true}
 use Rattle.run_events.specs.Record.{number}
 use Rattle.gate_core.specs.declared.full.Full.{Full}
 use Rattle.gate_core.specs.Core.{CoreState, Append, Close}
@@ -31,9 +32,6 @@ with_source parts source = record { source = source; hub = parts.hub; replica = 
 module _ (c : Course) (core : CoreState) (parts : Parts) (at : IsAt c core parts) where
   closed_is : parts.hub.closed ≡ core.closed
   closed_is = λ i. (at.follows.stands i).closed
-
-  pub closed_before : parts.hub.closed ≡ true → core.closed ≡ true
-  closed_before is = sym closed_is ∙ is
 
   pub open_before : parts.hub.closed ≡ false → core.closed ≡ false
   open_before is = sym closed_is ∙ is
@@ -106,12 +104,8 @@ module _ (c : Course) (core : CoreState) (parts : Parts) (at : IsAt c core parts
 
     pub waits_for_gate : (back : Source) → still_to_come back ≡ item_of entry ∷ still_to_come source → (is_some entry.byte && is_full parts.gate) ≡ true → HasWaited c core parts (with_source parts back)
     waits_for_gate back put crowded =
-        let both = full_is (is_some entry.byte) (length parts.gate.steps) crowded in
-        record { crowded = inr (both.0, ap next_has_byte given ∙ both.1); at = same_run back put }
-      where
-        full_is : (b : Bool) (n : ℕ) → (b && nat_eq n 4096) ≡ true → (n ≡ 4096) × (b ≡ true)
-        full_is true n is = (grind (arith, is), refl)
-        full_is false n is = cc
+        let both = and_parts (is_some entry.byte) (is_full parts.gate) crowded in
+        record { crowded = inr (eqb-true (length parts.gate.steps) 4096 both.1, ap next_has_byte given ∙ both.0); at = same_run back put }
 
     pub waits_for_log : (back : Source) → still_to_come back ≡ item_of entry ∷ still_to_come source → (full : Full) → full_of parts.hub ≡ Some full
         → HasWaited c core parts (record { source = back; hub = with_append parts.hub entry.item; replica = parts.replica; gate = parts.gate; end = parts.end })

@@ -1,9 +1,9 @@
 -- What a run leaves when it is over.
 use Rattle.guard_run.proofs.EndLaws.{released_short}
-use Rattle.std.proofs.Common.{◌≡◌, ℕ, true, [], ◌∷◌, length, take, Option, Some, sym, ap, subst, ◌∙◌, arith, ◌≤◌}
+use Rattle.std.proofs.Common.{◌≡◌, ℕ, true, [], ◌∷◌, length, take, Option, Some, sym, ap, subst, ◌∙◌, arith, ◌≤◌, drop-cons}
 use Rattle.std.specs.Option.{option_map}
 use Rattle.std.specs.List.{flat_map}
-use Rattle.std.proofs.lemmas.List.{length-take-le, length-map, take_all, reverse-append}
+use Rattle.std.proofs.lemmas.List.{length-take-le, length-map, take_all, reverse-append, drop_all}
 use Rattle.list_laws.proofs.PrefixLaws.{take_IsPrefix}
 use Rattle.run_events.specs.declared.record.EndCause.{EndCause}
 use Rattle.run_events.specs.declared.record.Record.TheVariants.{End}
@@ -28,14 +28,13 @@ use Rattle.guard_run.specs.Replicas.{Follows, taken_by}
 use Rattle.guard_run.specs.Runs.{IsEnded, IsStopped}
 use Rattle.guard_run.proofs.CourseLaws.{numbered, reach_whole}
 use Rattle.guard_run.proofs.ItemLaws.{issued_all}
-use Rattle.guard_run.proofs.ListLaws.{single}
 
 module _ (c : Course) (core : CoreState) (hub : HubState) (replica : Replica) (f : Follows c core hub replica) (closed : core.closed ≡ true) (taken : taken_by core ≡ core.appended) where
   pub hub_closed : hub.closed ≡ true
   hub_closed = (λ i. (f.stands i).closed) ∙ closed
 
   taken_is : core.taken ≡ core.appended ∷ []
-  taken_is = single core.taken f.sound.taken ∙ ap (λ n. n ∷ []) taken
+  taken_is = drop-cons core.taken 0 0 (omega (arith, f.sound.taken)) ∙ ap (λ l. taken_by core ∷ l) (drop_all 1 core.taken (omega (arith, f.sound.taken))) ∙ ap (λ n. n ∷ []) taken
 
   pub hub_read : hub.taken ≡ hub.appended ∷ []
   hub_read = (λ i. (f.stands i).taken) ∙ taken_is ∙ ap (λ n. n ∷ []) (let same : hub.appended ≡ core.appended = (λ i. (f.stands i).appended) in sym same)

@@ -1,20 +1,23 @@
 -- What is true of each course: its log, its output, and what a replica has seen of it.
-use Rattle.std.proofs.Common.{◌≡◌, ℕ, zero, suc, ◌+◌, ◌<◌, ◌≤◌, Bool, true, false, cond, List, [], ◌∷◌, ◌++◌, length, take, drop, reverse, Option, Some, None, refl, sym, ap, subst, ◌∙◌, arith, take-append-drop}
-use Rattle.std.specs.Prelude.{nat_lt, ◌&&◌, min, unwrap_or, slice_index, IfSome}
+use Rattle.std.proofs.Common.{◌≡◌, ℕ, zero, suc, ◌+◌, ◌<◌, ◌≤◌, Bool, true, false, cond, List, [], ◌∷◌, length, take, drop, reverse, Option, Some, None, refl, sym, ap, subst, ◌∙◌, arith, take-append-drop}
+use Rattle.std.specs.Prelude.{nat_lt, min, unwrap_or, slice_index, IfSome}
 use Rattle.std.specs.Option.{option_map}
 use Rattle.std.specs.List.{flat_map, cons_option}
-use Rattle.std.proofs.lemmas.List.{take_all, reverse-append}
+use Rattle.std.proofs.lemmas.List.{take_all}
 use Rattle.std.proofs.lemmas.Option.{none-some}
+use Rattle.std.proofs.lemmas.Bool.{and_from}
 use Rattle.list_laws.proofs.PrefixLaws.{take_IsPrefix}
 use Rattle.run_events.specs.declared.event.Event.{Event}
 use Rattle.run_events.specs.declared.record.Record.{Record}
 use Rattle.run_events.specs.declared.record.Record.TheVariants.{End}
 use Rattle.run_events.specs.Event.{step_of}
-use Rattle.run_events.specs.Record.{number, reach, reach_back, is_admitted, is_ordered, is_ordered_back}
+use Rattle.run_events.proofs.RecordLaws.{reach_push}
+use Rattle.run_events.specs.Record.{number, reach, is_admitted, is_ordered, is_ordered_back}
 use Rattle.machine_model.specs.State.{State}
 use Rattle.machine_model.specs.Run.{run_from, output, serial_byte, records_of}
-use Rattle.machine_model.specs.Replay.{Fault, StepFalls, first_fault_back, fault_behind, fault_of, elsewhere, first_end, shown_back}
+use Rattle.machine_model.specs.Replay.{Fault, StepFalls, first_fault_back, elsewhere, first_end, shown_back}
 use Rattle.machine_model.proofs.NumberLaws.{Numbered, IsNumbered, run_from-IsNumbered, below_taken, from_dropped}
+use Rattle.machine_model.proofs.ShownLaws.{fits_parts}
 use Rattle.replayer.proofs.Determinism.{each_front_fits, front_shown}
 use Rattle.analysis_model.specs.Made.{code_made_of, kind_made_of}
 use Rattle.analysis_model.specs.Findings.{findings, first_step}
@@ -31,23 +34,15 @@ use Rattle.guard_run.specs.Verdicts.{verdict_from}
 use Rattle.guard_run.proofs.ListLaws.{steps_of}
 
 -- a list without a fault is in order
-fault_parts : (start : State) (before : List Record) (item : Record) → first_fault_back start (item ∷ before) ≡ None → (o : Option Fault) → first_fault_back start before ≡ o → (o ≡ None) × (fault_of start before item ≡ None)
-unfolding first_fault_back
-fault_parts start before item fits None is = (refl, ap (fault_behind start before item) (sym is) ∙ fits)
-fault_parts start before item fits (Some fault) is = absurd (none-some fault (sym fits ∙ ap (fault_behind start before item) is))
-
 admitted_by : (b : Bool) (fault : Option Fault) (falls : Fault) → cond b fault (Some falls) ≡ None → b ≡ true
 admitted_by true fault falls none = refl
 admitted_by false fault falls none = absurd (none-some falls (sym none))
 
-both : (a b : Bool) → a ≡ true → b ≡ true → (a && b) ≡ true
-both a b left right = ap (λ x. x && b) left ∙ right
-
 fits_ordered : (start : State) (items : List Record) → first_fault_back start items ≡ None → is_ordered_back items ≡ true
 fits_ordered start [] fits = refl
 fits_ordered start (item ∷ before) fits =
-    let parts = fault_parts start before item fits (first_fault_back start before) refl in
-    both (is_admitted before item) (is_ordered_back before)
+    let parts = fits_parts start before item fits in
+    and_from (is_admitted before item) (is_ordered_back before)
     (admitted_by (is_admitted before item) (elsewhere start item (first_end (number item) start item)) (StepFalls (number item)) parts.1)
     (fits_ordered start before parts.0)
 
@@ -65,9 +60,6 @@ output_climbs n (event ∷ events) numbered =
 rises_of : (low high : ℕ) (steps : List ℕ) → Climbs low steps high → RisesFrom low steps
 rises_of low high [] climbs = tt
 rises_of low high (step ∷ steps) climbs = (climbs.0, rises_of step high steps (Climbs-wider steps (step + 1) step high high (omega arith) (omega arith) climbs.1))
-
-pub reach_push : (front : List Record) (last : Record) → reach (front ++ last ∷ []) ≡ number last
-reach_push front last = ap reach_back (reverse-append front (last ∷ []))
 
 module _ (c : Course) (is : IsCourse c) where
   pub numbered : IsNumbered 0 (run_of c)

@@ -17,7 +17,7 @@ use Rattle.guard_run.specs.Course.{Course, log_of, output_of, stop_of, plan_of, 
 use Rattle.guard_run.specs.Gates.{issued_by, kept, still_waiting, released_by}
 use Rattle.guard_run.specs.Replicas.{Follows, after_turn}
 use Rattle.guard_run.specs.Runs.{IsIdle, IsBroken, IsOnItsWay, IsReadOut, HasEnded, HasStopped, HasBrokenRound, bytes_between}
-use Rattle.guard_run.proofs.ListLaws.{bytes_in, AllBelow, before-all, before-long}
+use Rattle.guard_run.proofs.ListLaws.{bytes_in, AllBelow, before-all, before-long, before-split}
 use Rattle.guard_run.proofs.CourseLaws.{is_plan}
 use Rattle.guard_run.proofs.ItemLaws.{issued_all, issued_IsPrefix}
 use Rattle.guard_run.proofs.ReplicaLaws.{follows_on}
@@ -90,8 +90,7 @@ module _ (c : Course) (core : CoreState) (is : IsCourse c) (sound : IsSound (pla
   released_front : IsPrefix (bytes_between c 0 core.released) (released_by c core.appended)
   released_front = IsPrefix-map (λ (byte : ℕ × ℕ). byte.1) (record {
     rest = before_step (stop_of c) (drop core.released sent);
-    joined = ap (λ l. l ++ before_step (stop_of c) (drop core.released sent)) (sym same ∙ sym (before-all (stop_of c) (take core.released sent) below))
-        ∙ sym (filter-append (λ (byte : ℕ × ℕ). nat_lt byte.0 (stop_of c)) (take core.released sent) (drop core.released sent)) ∙ ap (before_step (stop_of c)) (take-append-drop core.released sent);
+    joined = ap (λ l. l ++ before_step (stop_of c) (drop core.released sent)) (sym same) ∙ sym (before-split (stop_of c) core.released sent below);
   })
 
   -- and so they are no more than those

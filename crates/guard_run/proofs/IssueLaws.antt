@@ -1,10 +1,13 @@
 -- The gate of a run, when bytes are issued to it.
-use Rattle.std.proofs.Common.{◌≡◌, ℕ, zero, suc, ◌+◌, ◌-◌, ◌<◌, ◌≤◌, Bool, true, false, cond, List, [], ◌∷◌, ◌++◌, length, drop, Option, Some, None, refl, sym, ap, subst, ◌∙◌, arith, append-nil, append_assoc}
-use Rattle.std.specs.Prelude.{nat_lt, nat_le, nat_eq, ◌&&◌, is_some, IfSome}
+use Rattle.std.proofs.Common.{◌≡◌, ℕ, zero, suc, ◌+◌, ◌-◌, ◌<◌, ◌≤◌, Bool, true, false, cond, List, [], ◌∷◌, ◌++◌, length, drop, Option, Some, None, refl, sym, ap, subst, ◌∙◌, arith, append-nil}
+use Rattle.std.specs.Prelude.{nat_lt, nat_le, ◌&&◌, is_some, IfSome}
 use Rattle.std.specs.Option.{option_map}
 use Rattle.std.specs.List.{cons_option}
-use Rattle.std.proofs.lemmas.List.{map-append, drop-append-le, length_push}
+use Rattle.std.proofs.Math.Seq.{append_snoc}
+use Rattle.std.proofs.lemmas.Bool.{eqb-false}
+use Rattle.std.proofs.lemmas.List.{map-append, drop-append-le, length_push, length-drop}
 use Rattle.std.proofs.lemmas.List.Elements.{All-append, All-weaker, All-nil, All-push, filter-append}
+use Rattle.circular_buffer.proofs.Places.{cut_front}
 use Rattle.run_events.specs.Record.{number}
 use Rattle.run_events.specs.declared.record.Record.TheVariants.{Reach}
 use Rattle.machine_model.specs.Items.{Item, items, byte_of}
@@ -32,9 +35,6 @@ module _ (g : GateState) (step byte : ℕ) (room : is_full g ≡ false) where
   issue_drops : is_withheld g.from step ≡ true → with_issue g step byte ≡ record g { issued = g.issued + 1; withheld = g.withheld + 1; next = step + 1 }
   unfolding waits drops
   issue_drops is_so = ap (λ b. cond b g (cond (is_withheld g.from step) drops waits)) room ∙ ap (λ b. cond b drops waits) is_so
-
-few_more : (n : ℕ) → nat_eq n 4096 ≡ false → n ≤ 4096 → n + 1 ≤ 4096
-few_more n not le = grind (arith, not, le)
 
 -- one byte more that is kept, or not
 below_one : (from : ℕ) (byte : ℕ × ℕ) (b : Bool) → nat_le from byte.0 ≡ b → before_step from (byte ∷ []) ≡ cond b [] (byte ∷ [])
@@ -85,7 +85,7 @@ module _ (c : Course) (core : CoreState) (gate : GateState) (g : Gates c core ga
       withheld = g.withheld;
       sound = g.sound;
       there = omega (arith, ap length (kept_is false not), length_push (kept gate.from (issued_by c core.appended)) (step, byte), g.there);
-      few = omega (arith, length_push gate.steps step, few_more (length gate.steps) room g.few);
+      few = omega (arith, length_push gate.steps step, eqb-false (length gate.steps) 4096 room, g.few);
     })
     issued_by_case true is_so =
         let same : kept gate.from (issued_by c (core.appended + 1)) ≡ kept gate.from (issued_by c core.appended) = kept_is true is_so ∙ append-nil (kept gate.from (issued_by c core.appended)) in
@@ -122,12 +122,9 @@ module _ (c : Course) (core : CoreState) (gate : GateState) (g : Gates c core ga
       ap steps_of (sym front.joined)
       ∙ map-append (λ (byte : ℕ × ℕ). byte.0) (issued_by c (core.appended + 1)) front.rest
       ∙ ap (λ l. l ++ steps_of front.rest) (ap steps_of more ∙ map-append (λ (byte : ℕ × ℕ). byte.0) sent ((step, byte) ∷ []))
-      ∙ append_one (steps_of sent) step (steps_of front.rest) in
+      ∙ append_snoc (steps_of sent) step (steps_of front.rest) in
       let le : behind 0 (steps_of sent) ≤ step = behind-le (steps_of sent) step (steps_of front.rest) 0 (run_of c).steps (subst (λ l. Climbs 0 l (run_of c).steps) steps_are (climbs c is)) in
       omega (arith, le, g.last)
-    where
-      append_one : (xs : List ℕ) (x : ℕ) (ys : List ℕ) → (xs ++ x ∷ []) ++ ys ≡ xs ++ x ∷ ys
-      append_one xs x ys = append_assoc xs (x ∷ []) ys
 
   pub rises_next : (is : IsCourse c) (i : Item) (rest : List Item) → IsNext c core.appended i rest → IfSome i.byte (λ byte. gate.next ≤ number i.item - 1)
   rises_next is i rest next = rises_by is i i.byte next.issued
@@ -136,12 +133,6 @@ module _ (c : Course) (core : CoreState) (gate : GateState) (g : Gates c core ga
 under_by : (low : ℕ) (item : ℕ) (o : Option ℕ) → item ≡ low → IfSome o (λ byte. 1 ≤ item) → AllBelow low (cons_option (option_map (λ byte. (item - 1, byte)) o) [])
 under_by low item None is marked = All-nil (λ (byte : ℕ × ℕ). byte.0 < low)
 under_by low item (Some byte) is marked = All-push (λ (byte : ℕ × ℕ). byte.0 < low) [] (item - 1, byte) (All-nil (λ (byte : ℕ × ℕ). byte.0 < low)) (omega (arith, is, marked))
-
-some_left : {X : Type 0} (k : ℕ) (xs : List X) → k < length xs → (x : X) × (rest : List X) × (drop k xs ≡ x ∷ rest)
-some_left zero [] less = absurd (omega arith)
-some_left zero (x ∷ xs) less = (x, xs, refl)
-some_left (suc k) [] less = absurd (omega arith)
-some_left (suc k) (y ∷ xs) less = some_left k xs (omega (arith, less))
 
 marked_number : (i : Item) (o : Option ℕ) → IfSome o (λ byte. (k : ℕ) × (i.item ≡ Reach (k + 1)) × (k < 1000000000)) → IfSome o (λ byte. 1 ≤ number i.item)
 marked_number i None marked = tt
@@ -160,5 +151,5 @@ module _ (c : Course) (is : IsCourse c) where
   pub issued_under : (a : ℕ) → a ≤ length (log_of c) → AllBelow (reached (plan_of c) a) (issued_by c a)
   issued_under zero le = All-nil (λ (byte : ℕ × ℕ). byte.0 < reached (plan_of c) 0)
   issued_under (suc a) le =
-      let left = some_left a (items (run_of c)) (omega (arith, le, length_log c is)) in
+      let left = cut_front (drop a (items (run_of c))) (omega (arith, le, length-drop a (items (run_of c)), length_log c is)) in
       subst (λ n. AllBelow (reached (plan_of c) n) (issued_by c n)) (let e : a + 1 ≡ suc a = omega arith in e) (under_next a (issued_under a (omega (arith, le))) left.0 left.1 (next_item c is a left.0 left.1 left.2))

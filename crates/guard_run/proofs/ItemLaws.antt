@@ -1,14 +1,18 @@
 -- The items of a course, and the bytes that they let go.
-use Rattle.std.proofs.Common.{◌≡◌, ℕ, zero, suc, ◌+◌, ◌<◌, ◌≤◌, Bool, true, false, cond, List, [], ◌∷◌, ◌++◌, length, take, drop, map, Option, Some, None, refl, sym, ap, subst, ◌∙◌, arith, append_assoc, length-append, take-append-drop}
-use Rattle.std.specs.Prelude.{◌||◌, ◌==◌, ◌%◌, is_some, slice_get, IfSome}
-use Rattle.std.specs.List.{AllByRecursion, flat_map, cons_option}
-use Rattle.std.proofs.lemmas.List.{length-map, take_all}
-use Rattle.std.proofs.lemmas.List.Elements.{filter_map-append}
+use Rattle.std.proofs.Common.{◌≡◌, ℕ, zero, suc, ◌+◌, ◌<◌, ◌≤◌, Bool, true, false, cond, List, [], ◌∷◌, ◌++◌, length, take, drop, Option, Some, None, refl, sym, ap, subst, ◌∙◌, arith, append_assoc, length-append, take-append-drop}
+use Rattle.std.specs.Prelude.{◌||◌, ◌==◌, ◌%◌, is_some, slice_get, IfSome, option_map}
+use Rattle.std.specs.List.{AllByRecursion, flat_map, cons_option, All}
+use Rattle.std.proofs.lemmas.List.{length-map, take_all, length-drop, drop-drop}
+use Rattle.std.proofs.lemmas.List.Elements.{filter_map-append, All-from_recursion, All-map, All-weaker}
+use Rattle.std.proofs.lemmas.Option.{get_or_from_slice_get, slice_get_within, slice_get-map}
 use Rattle.list_laws.specs.Prefix.{IsPrefix}
+use Rattle.list_laws.proofs.PlaceLaws.{all-at, dropped-at}
+use Rattle.list_laws.proofs.PrefixLaws.{take-next}
 use Rattle.run_events.specs.declared.event.Event.{Event}
 use Rattle.run_events.specs.declared.record.Record.{Record}
 use Rattle.run_events.specs.declared.record.Record.TheVariants.{Load, Lines, Dma, Reach, End}
 use Rattle.run_events.specs.Event.{step_of}
+use Rattle.run_events.proofs.RecordLaws.{reach_push}
 use Rattle.run_events.specs.Record.{IsRecord, number, reach}
 use Rattle.machine_model.specs.State.{State}
 use Rattle.machine_model.specs.Step.{step_from}
@@ -21,7 +25,7 @@ use Rattle.machine_model.proofs.ShownLaws.{log_AreWithin}
 use Rattle.gate_core.specs.Core.{reached}
 use Rattle.guard_run.specs.Course.{Course, IsCourse, run_of, log_of, output_of, plan_of}
 use Rattle.guard_run.specs.Gates.{issued_by, IsMarked}
-use Rattle.guard_run.proofs.CourseLaws.{numbered, reach_push}
+use Rattle.guard_run.proofs.CourseLaws.{numbered}
 
 -- a run has at most one event a step, and at most one item an event
 steps_by_status : (left : ℕ) (s next : State) (event : Event) → step_from s ≡ Some (event, next) → length (run_from left next).events ≤ left → (o : Option ℕ) → power_status event ≡ o → length (run_from (suc left) s).events ≤ suc left
@@ -63,50 +67,8 @@ items_behind_are (event ∷ events) rest all =
     subst AreItems (sym (append_assoc (items_behind event) (flat_map items_behind events) rest))
     (item_behind (is_some (serial_byte event) || (step_of event + 1) % 256 == 0) (step_of event) (serial_byte event) (flat_map items_behind events ++ rest) (items_behind_are events rest all))
 
-items_are : (run : Finished) → AreItems (items run)
-items_are run = items_behind_are run.events (record { item = End run.steps run.cause; byte = None } ∷ []) ((refl, tt), tt)
-
--- what stands at a place
-dropped-at : {X : Type 0} (k : ℕ) (xs : List X) (x : X) (rest : List X) → drop k xs ≡ x ∷ rest → slice_get xs k ≡ Some x
-dropped-at zero xs x rest is = ap (λ l. slice_get l 0) is
-dropped-at (suc k) [] x rest is = cc
-dropped-at (suc k) (y ∷ xs) x rest is = dropped-at k xs x rest is
-
-dropped-rest : {X : Type 0} (k : ℕ) (xs : List X) (x : X) (rest : List X) → drop k xs ≡ x ∷ rest → drop (suc k) xs ≡ rest
-dropped-rest zero xs x rest is = ap (drop 1) is
-dropped-rest (suc k) [] x rest is = cc
-dropped-rest (suc k) (y ∷ xs) x rest is = dropped-rest k xs x rest is
-
-dropped-less : {X : Type 0} (k : ℕ) (xs : List X) (x : X) (rest : List X) → drop k xs ≡ x ∷ rest → k < length xs
-dropped-less zero [] x rest is = cc
-dropped-less zero (y ∷ xs) x rest is = omega arith
-dropped-less (suc k) [] x rest is = cc
-dropped-less (suc k) (y ∷ xs) x rest is = let less : k < length xs = dropped-less k xs x rest is in omega (arith, less)
-
-dropped-take : {X : Type 0} (k : ℕ) (xs : List X) (x : X) (rest : List X) → drop k xs ≡ x ∷ rest → take (suc k) xs ≡ take k xs ++ x ∷ []
-dropped-take zero [] x rest is = cc
-dropped-take zero (y ∷ xs) x rest is = ap (take 1) is
-dropped-take (suc k) [] x rest is = cc
-dropped-take (suc k) (y ∷ xs) x rest is = ap (λ l. y ∷ l) (dropped-take k xs x rest is)
-
-dropped-map : {X Y : Type 0} (f : X → Y) (k : ℕ) (xs : List X) (x : X) (rest : List X) → drop k xs ≡ x ∷ rest → drop k (map f xs) ≡ f x ∷ map f rest
-dropped-map f zero xs x rest is = ap (map f) is
-dropped-map f (suc k) [] x rest is = cc
-dropped-map f (suc k) (y ∷ xs) x rest is = dropped-map f k xs x rest is
-
-all-at : {X : Type 0} (P : X → Type 0) (k : ℕ) (xs : List X) (x : X) → AllByRecursion P xs → slice_get xs k ≡ Some x → P x
-all-at P k [] x all is = cc
-all-at P zero (y ∷ xs) x all is = subst P (some_same y x is) all.0
-  where
-    some_same : {X : Type 0} (a b : X) → ◌≡◌ {A = Option X} (Some a) (Some b) → a ≡ b
-    some_same a b e = cc
-all-at P (suc k) (y ∷ xs) x all is = all-at P k xs x all.1 is
-
-no_more : {X : Type 0} (k : ℕ) (xs : List X) → drop k xs ≡ [] → length xs ≤ k
-no_more zero [] is = omega arith
-no_more zero (x ∷ xs) is = cc
-no_more (suc k) [] is = omega arith
-no_more (suc k) (x ∷ xs) is = let le : length xs ≤ k = no_more k xs is in omega (arith, le)
+items_are : (run : Finished) → All IsItem (items run)
+items_are run = All-from_recursion IsItem (items run) (items_behind_are run.events (record { item = End run.steps run.cause; byte = None } ∷ []) ((refl, tt), tt))
 
 -- the next item of a run of which so many were appended
 pub record IsNext (c : Course) (a : ℕ) (i : Item) (rest : List Item) : Type 0 where
@@ -143,40 +105,35 @@ module _ (c : Course) (is : IsCourse c) where
       omega (arith, sym length_log, length-append (flat_map items_behind (run_of c).events) (record { item = End (run_of c).steps (run_of c).cause; byte = None } ∷ []), all_short (run_of c).events, steps_short c.limit c.start, is.limit)
 
   pub no_item_left : (a : ℕ) → drop a (items (run_of c)) ≡ [] → length (log_of c) ≤ a
-  no_item_left a none = omega (arith, no_more a (items (run_of c)) none, length_log)
+  no_item_left a none = omega (arith, ap length none, length-drop a (items (run_of c)), length_log)
 
   -- the log holds marks and an end alone
   pub each_taken : (a : ℕ) (item : Record) → slice_get (log_of c) a ≡ Some item → is_taken item ≡ true
-  each_taken a item at = taken_at a (items (run_of c)) item (items_are (run_of c)) (ap (λ l. slice_get l a) (items-log (run_of c)) ∙ at)
-    where
-      taken_at : (a : ℕ) (given : List Item) (item : Record) → AreItems given → slice_get (map (λ (i : Item). i.item) given) a ≡ Some item → is_taken item ≡ true
-      taken_at a [] item all is = cc
-      taken_at zero (i ∷ given) item all is = ap is_taken (some_same item i.item (sym is)) ∙ all.0.0
-        where
-          some_same : (a b : Record) → ◌≡◌ {A = Option Record} (Some a) (Some b) → a ≡ b
-          some_same a b e = cc
-      taken_at (suc a) (i ∷ given) item all is = taken_at a given item all.1 is
+  each_taken a item at =
+      let taken = All-weaker IsItem (λ i. is_taken i.item ≡ true) (λ i is. is.0) (items (run_of c)) (items_are (run_of c)) in
+      let all = All-map (λ item. is_taken item ≡ true) (λ (i : Item). i.item) (items (run_of c)) taken in
+      all-at (λ item. is_taken item ≡ true) a (log_of c) item (subst (All (λ item. is_taken item ≡ true)) (items-log (run_of c)) all) at
 
   pub next_item : (a : ℕ) (i : Item) (rest : List Item) → drop a (items (run_of c)) ≡ i ∷ rest → IsNext c a i rest
   next_item a i rest here =
       let run = run_of c in
-      let one : a + 1 ≡ suc a = omega arith in
-      let in_log : drop a (log_of c) ≡ i.item ∷ map (λ (i : Item). i.item) rest = ap (drop a) (sym (items-log run)) ∙ dropped-map (λ (i : Item). i.item) a (items run) i rest here in
-      let at : slice_get (log_of c) a ≡ Some i.item = dropped-at a (log_of c) i.item (map (λ (i : Item). i.item) rest) in_log in
-      let is_item : IsItem i = all-at IsItem a (items run) i (items_are run) (dropped-at a (items run) i rest here) in
-      let within : number i.item ≤ run.steps = all-at (λ (item : Record). number item ≤ run.steps) a (log_of c) i.item (log_AreWithin 0 run (numbered c is)) at in
+      let item_at : slice_get (items run) a ≡ Some i = dropped-at a (items run) i rest here in
+      let at : slice_get (log_of c) a ≡ Some i.item = ap (λ l. slice_get l a) (sym (items-log run)) ∙ slice_get-map (λ (i : Item). i.item) (items run) a ∙ ap (option_map (λ (i : Item). i.item)) item_at in
+      let is_item : IsItem i = all-at IsItem a (items run) i (items_are run) item_at in
+      let all_within = All-from_recursion (λ item. number item ≤ run.steps) (log_of c) (log_AreWithin 0 run (numbered c is)) in
+      let within : number i.item ≤ run.steps = all-at (λ item. number item ≤ run.steps) a (log_of c) i.item all_within at in
       let few : number i.item ≤ 1000000000 = omega (arith, within, steps_within) in
-      let longer : take (a + 1) (log_of c) ≡ take a (log_of c) ++ i.item ∷ [] = ap (λ n. take n (log_of c)) one ∙ dropped-take a (log_of c) i.item (map (λ (i : Item). i.item) rest) in_log in
+      let longer : take (a + 1) (log_of c) ≡ take a (log_of c) ++ i.item ∷ [] = take-next a (log_of c) i.item at in
       record {
-        less = dropped-less a (log_of c) i.item (map (λ (i : Item). i.item) rest) in_log;
+        less = slice_get_within (log_of c) a i.item at;
         at = at;
         longer = longer;
         is_record = record_by i.item is_item.0 few;
         taken = is_item.0;
         marked = marked_by i.item i.byte is_item.1 few;
-        rest_is = ap (λ n. drop n (items run)) one ∙ dropped-rest a (items run) i rest here;
+        rest_is = sym (drop-drop 1 a (items run)) ∙ ap (drop 1) here;
         reaches = ap reach longer ∙ reach_push (take a (log_of c)) i.item;
-        issued = ap (λ n. bytes_of (take n (items run))) one ∙ ap bytes_of (dropped-take a (items run) i rest here) ∙ filter_map-append byte_of (take a (items run)) (i ∷ []);
+        issued = ap bytes_of (take-next a (items run) i item_at) ∙ filter_map-append byte_of (take a (items run)) (i ∷ []);
       }
 
   -- what was issued is a front of the output

@@ -1,13 +1,15 @@
 -- Lists that rise, and parts of them.
-use Rattle.std.proofs.Common.{◌≡◌, ℕ, zero, suc, ◌+◌, ◌<◌, ◌≤◌, Bool, true, false, cond, List, [], ◌∷◌, ◌++◌, length, take, drop, map, refl, sym, ap, subst, ◌∙◌, arith}
-use Rattle.std.specs.Prelude.{nat_lt, filter, slice_index}
+use Rattle.std.proofs.Common.{◌≡◌, ℕ, ◌+◌, ◌<◌, ◌≤◌, Bool, true, false, cond, List, [], ◌∷◌, ◌++◌, length, take, drop, map, refl, sym, ap, subst, ◌∙◌, arith, lt-ltb, take-append-drop}
+use Rattle.std.specs.Prelude.{nat_lt, filter}
 use Rattle.std.specs.List.{All}
-use Rattle.std.proofs.lemmas.List.{length-map}
-use Rattle.std.proofs.lemmas.List.Elements.{All-tail, All-head, All-weaker, filter_passes}
+use Rattle.std.proofs.Math.Seq.{take-length}
+use Rattle.std.proofs.lemmas.List.{length-map, nil_from_length, drop_at, length-take-le, length-append}
+use Rattle.std.proofs.lemmas.List.Elements.{All-tail, All-head, All-weaker, filter_passes, filter-append}
 use Rattle.list_laws.specs.Prefix.{IsPrefix}
+use Rattle.list_laws.proofs.PrefixLaws.{IsPrefix-take}
 use Rattle.analysis_model.specs.Job.{before_step}
 use Rattle.output_gate.specs.Gate.{Climbs, behind, count_below}
-use Rattle.output_gate.proofs.GateLaws.{Climbs-span}
+use Rattle.output_gate.proofs.GateLaws.{Climbs-take, count_below-none}
 
 -- the steps and the bytes of some output
 abbrev pub steps_of : List (ℕ × ℕ) → List ℕ
@@ -17,18 +19,14 @@ abbrev pub bytes_in : List (ℕ × ℕ) → List ℕ
 bytes_in sent = map (λ (byte : ℕ × ℕ). byte.1) sent
 
 -- a front of a list that rises
-pub Climbs-front : (xs ys : List ℕ) (low high : ℕ) → Climbs low (xs ++ ys) high → Climbs low xs high
-Climbs-front [] ys low high climbs = Climbs-span ys low high climbs
-Climbs-front (x ∷ xs) ys low high climbs = (climbs.0, Climbs-front xs ys (x + 1) high climbs.1)
+pub Climbs-front : (front whole : List ℕ) (low high : ℕ) → IsPrefix front whole → Climbs low whole high → Climbs low front high
+Climbs-front front whole low high is climbs =
+    subst (λ l. Climbs low l high) (sym (IsPrefix-take (length front) front whole is (omega arith)) ∙ take-length front) (Climbs-take (length front) whole low high climbs)
 
 -- what stands behind some steps is not below the last of them
 pub behind-le : (xs : List ℕ) (x : ℕ) (ys : List ℕ) (low high : ℕ) → Climbs low (xs ++ x ∷ ys) high → behind low xs ≤ x
 behind-le [] x ys low high climbs = climbs.0
 behind-le (y ∷ xs) x ys low high climbs = behind-le xs x ys (y + 1) high climbs.1
-
-pub Climbs-last : (xs : List ℕ) (x : ℕ) (ys : List ℕ) (low high : ℕ) → Climbs low (xs ++ x ∷ ys) high → x < high
-Climbs-last [] x ys low high climbs = omega (arith, Climbs-span ys (x + 1) high climbs.1)
-Climbs-last (y ∷ xs) x ys low high climbs = Climbs-last xs x ys (y + 1) high climbs.1
 
 -- steps that are all below a bound end below it
 pub behind-below : (xs : List ℕ) (low bound : ℕ) → low ≤ bound → All (λ x. x < bound) xs → behind low xs ≤ bound
@@ -40,23 +38,16 @@ behind-push [] x low = refl
 behind-push (y ∷ xs) x low = behind-push xs x (y + 1)
 
 -- what some steps below a bound are among others
-pub filter-map-by : (b : Bool) (byte : ℕ × ℕ) (steps : List ℕ) (sent : List (ℕ × ℕ)) → steps ≡ steps_of sent → cond b (byte.0 ∷ steps) steps ≡ steps_of (cond b (byte ∷ sent) sent)
-filter-map-by true byte steps sent is = ap (λ l. byte.0 ∷ l) is
-filter-map-by false byte steps sent is = is
-
 pub filter-map-steps : (bound : ℕ) (sent : List (ℕ × ℕ)) → filter (λ step. nat_lt step bound) (steps_of sent) ≡ steps_of (before_step bound sent)
 filter-map-steps bound [] = refl
-filter-map-steps bound (byte ∷ sent) = filter-map-by (nat_lt byte.0 bound) byte (filter (λ step. nat_lt step bound) (steps_of sent)) (before_step bound sent) (filter-map-steps bound sent)
+filter-map-steps bound (byte ∷ sent) = grind (arith, filter-map-steps bound sent)
 
 pub count-before : (bound : ℕ) (sent : List (ℕ × ℕ)) → count_below bound (steps_of sent) ≡ length (before_step bound sent)
 count-before bound sent = ap length (filter-map-steps bound sent) ∙ length-map (before_step bound sent) (λ (byte : ℕ × ℕ). byte.0)
 
 -- of output whose steps rise, what is below a bound comes first
 none-below : (bound low high : ℕ) (sent : List (ℕ × ℕ)) → bound ≤ low → Climbs low (steps_of sent) high → before_step bound sent ≡ []
-none-below bound low high [] le climbs = refl
-none-below bound low high (byte ∷ sent) le climbs =
-    let not : nat_lt byte.0 bound ≡ false = grind (arith, climbs.0, le) in
-    ap (λ b. cond b (byte ∷ before_step bound sent) (before_step bound sent)) not ∙ none-below bound (byte.0 + 1) high sent (omega (arith, climbs.0)) climbs.1
+none-below bound low high sent le climbs = nil_from_length (before_step bound sent) (sym (count-before bound sent) ∙ count_below-none (steps_of sent) low high bound le climbs)
 
 pub record IsSplit (bound : ℕ) (sent : List (ℕ × ℕ)) : Type 0 where
   pub rest : List (ℕ × ℕ)
@@ -79,53 +70,33 @@ splits bound low high (byte ∷ sent) climbs = split-by bound high byte sent cli
 pub split_IsPrefix : (bound : ℕ) (sent : List (ℕ × ℕ)) → IsSplit bound sent → IsPrefix (before_step bound sent) sent
 split_IsPrefix bound sent split = record { rest = split.rest; joined = split.joined }
 
--- what is below a bound, taken again
-before-again-by : (bound : ℕ) (byte : ℕ × ℕ) (rest : List (ℕ × ℕ)) → before_step bound rest ≡ rest → (b : Bool) → nat_lt byte.0 bound ≡ b → before_step bound (cond b (byte ∷ rest) rest) ≡ cond b (byte ∷ rest) rest
-before-again-by bound byte rest again true is = ap (λ b. cond b (byte ∷ before_step bound rest) (before_step bound rest)) is ∙ ap (λ l. byte ∷ l) again
-before-again-by bound byte rest again false is = again
+-- a test that all pass keeps all
+pub filter-all : {X : Type 0} (p : X → Bool) (xs : List X) → All (λ x. p x ≡ true) xs → filter p xs ≡ xs
+filter-all p [] all = refl
+filter-all p (x ∷ xs) all = rw (All-head (λ x. p x ≡ true) x xs all) (ap (λ l. x ∷ l) (filter-all p xs (All-tail (λ x. p x ≡ true) x xs all)))
 
+-- what is below a bound, taken again
 pub before-again : (bound : ℕ) (sent : List (ℕ × ℕ)) → before_step bound (before_step bound sent) ≡ before_step bound sent
-before-again bound [] = refl
-before-again bound (byte ∷ sent) = before-again-by bound byte (before_step bound sent) (before-again bound sent) (nat_lt byte.0 bound) refl
+before-again bound sent = filter-all (λ byte. nat_lt byte.0 bound) (before_step bound sent) (filter_passes (λ (byte : ℕ × ℕ). nat_lt byte.0 bound) sent)
 
 -- the bytes of output that are all below a bound
 abbrev pub AllBelow : ℕ → List (ℕ × ℕ) → Type 0
 AllBelow bound sent = All (λ (byte : ℕ × ℕ). byte.0 < bound) sent
 
 pub before-all : (bound : ℕ) (sent : List (ℕ × ℕ)) → AllBelow bound sent → before_step bound sent ≡ sent
-before-all bound [] all = refl
-before-all bound (byte ∷ sent) all =
-    let lt = All-head (λ (byte : ℕ × ℕ). byte.0 < bound) byte sent all in
-    let is : nat_lt byte.0 bound ≡ true = grind (arith, lt) in
-    ap (λ b. cond b (byte ∷ before_step bound sent) (before_step bound sent)) is ∙ ap (λ l. byte ∷ l) (before-all bound sent (All-tail (λ (byte : ℕ × ℕ). byte.0 < bound) byte sent all))
+before-all bound sent all =
+    filter-all (λ byte. nat_lt byte.0 bound) sent (All-weaker (λ (byte : ℕ × ℕ). byte.0 < bound) (λ (byte : ℕ × ℕ). nat_lt byte.0 bound ≡ true) (λ byte lt. lt-ltb byte.0 bound lt) sent all)
 
-lt-of : (a b : ℕ) → nat_lt a b ≡ true → a < b
-lt-of a b is = grind (arith, is)
+-- where the first so many are below a bound, what is below it are they, and then what is of the others
+pub before-split : (bound k : ℕ) (sent : List (ℕ × ℕ)) → AllBelow bound (take k sent) → before_step bound sent ≡ take k sent ++ before_step bound (drop k sent)
+before-split bound k sent all =
+    ap (before_step bound) (sym (take-append-drop k sent))
+    ∙ filter-append (λ (byte : ℕ × ℕ). nat_lt byte.0 bound) (take k sent) (drop k sent)
+    ∙ ap (λ l. l ++ before_step bound (drop k sent)) (before-all bound (take k sent) all)
 
-pub before-below : (bound : ℕ) (sent : List (ℕ × ℕ)) → AllBelow bound (before_step bound sent)
-before-below bound sent =
-    All-weaker (λ (byte : ℕ × ℕ). nat_lt byte.0 bound ≡ true) (λ (byte : ℕ × ℕ). byte.0 < bound) (λ byte is. lt-of byte.0 bound is) (before_step bound sent) (filter_passes (λ (byte : ℕ × ℕ). nat_lt byte.0 bound) sent)
-
--- where the first so many are below a bound, they may be dropped first
-pub before-drop : (bound k : ℕ) (sent : List (ℕ × ℕ)) → AllBelow bound (take k sent) → before_step bound (drop k sent) ≡ drop k (before_step bound sent)
-before-drop bound zero sent all = refl
-before-drop bound (suc k) [] all = refl
-before-drop bound (suc k) (byte ∷ sent) all =
-    let lt = All-head (λ (byte : ℕ × ℕ). byte.0 < bound) byte (take k sent) all in
-    let is : nat_lt byte.0 bound ≡ true = grind (arith, lt) in
-    before-drop bound k sent (All-tail (λ (byte : ℕ × ℕ). byte.0 < bound) byte (take k sent) all) ∙ ap (λ b. drop (suc k) (cond b (byte ∷ before_step bound sent) (before_step bound sent))) (sym is)
+-- they may be dropped first
+pub before-drop : (bound k : ℕ) (sent : List (ℕ × ℕ)) → k ≤ length sent → AllBelow bound (take k sent) → before_step bound (drop k sent) ≡ drop k (before_step bound sent)
+before-drop bound k sent le all = sym (ap (drop k) (before-split bound k sent all) ∙ drop_at (take k sent) (before_step bound (drop k sent)) k (length-take-le k sent le))
 
 pub before-long : (bound k : ℕ) (sent : List (ℕ × ℕ)) → k ≤ length sent → AllBelow bound (take k sent) → k ≤ length (before_step bound sent)
-before-long bound zero sent le all = omega arith
-before-long bound (suc k) [] le all = le
-before-long bound (suc k) (byte ∷ sent) le all =
-    let lt = All-head (λ (byte : ℕ × ℕ). byte.0 < bound) byte (take k sent) all in
-    let is : nat_lt byte.0 bound ≡ true = grind (arith, lt) in
-    let more : k ≤ length (before_step bound sent) = before-long bound k sent (omega (arith, le)) (All-tail (λ (byte : ℕ × ℕ). byte.0 < bound) byte (take k sent) all) in
-    subst (λ b. suc k ≤ length (cond b (byte ∷ before_step bound sent) (before_step bound sent))) (sym is) (omega (arith, more))
-
--- a list of one
-pub single : (xs : List ℕ) → length xs ≡ 1 → xs ≡ slice_index xs 0 ∷ []
-single [] one = absurd (omega (arith, one))
-single (x ∷ []) one = refl
-single (x ∷ y ∷ xs) one = absurd (omega (arith, one))
+before-long bound k sent le all = omega (arith, ap length (before-split bound k sent all), length-append (take k sent) (before_step bound (drop k sent)), length-take-le k sent le)

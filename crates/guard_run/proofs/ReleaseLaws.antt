@@ -1,9 +1,11 @@
 -- The gate of a run, when it releases and withholds.
-use Rattle.std.proofs.Common.{◌≡◌, ◌⊎◌, inl, inr, ℕ, zero, suc, ◌+◌, ◌-◌, ◌<◌, ◌≤◌, true, false, cond, List, [], ◌∷◌, ◌++◌, length, take, drop, Option, Some, None, refl, sym, ap, subst, ◌∙◌, arith, take-append-drop}
+use Rattle.std.proofs.Common.{◌≡◌, ◌⊎◌, inl, inr, ℕ, zero, suc, ◌+◌, ◌-◌, ◌<◌, ◌≤◌, true, false, List, [], length, take, drop, Option, Some, None, refl, sym, ap, subst, ◌∙◌, arith, lt-ltb, ltb-true}
 use Rattle.std.specs.Prelude.{nat_lt, min, slice_index, get_or, filter}
 use Rattle.std.specs.List.{All}
-use Rattle.std.proofs.lemmas.List.{map-append, length-map, drop-map, drop-drop, drop-take, length-drop, take_all, take-take, length-take, take-map, get_or-map, get_or-drop, get_or_append_left, drop_all, length-take-le}
-use Rattle.std.proofs.lemmas.List.Elements.{All-weaker, All-filter, All-drop, All-get_or, All-from_get_or, All-map, All-head, All-tail, filter_passes}
+use Rattle.std.proofs.Math.Seq.{drop-append_seam}
+use Rattle.std.proofs.lemmas.List.{length-map, drop-map, drop-drop, drop-take, length-drop, take_all, take-take, length-take, take-map, get_or-map, get_or-drop, drop_all, length-take-le, get_or-take}
+use Rattle.std.proofs.lemmas.List.Prefix.{front_reads}
+use Rattle.std.proofs.lemmas.List.Elements.{All-weaker, All-filter, All-drop, All-get_or, All-from_get_or, All-map, filter_passes}
 use Rattle.list_laws.specs.Prefix.{IsPrefix}
 use Rattle.list_laws.proofs.PrefixLaws.{IsPrefix-trans, IsPrefix-map, IsPrefix-take, IsPrefix-length}
 use Rattle.analysis_model.specs.Job.{before_step}
@@ -14,14 +16,10 @@ use Rattle.output_gate.proofs.GateLaws.{Climbs-take, Climbs-drop, filter-climbs,
 use Rattle.guard_run.specs.Course.{Course, IsCourse, run_of, log_of, output_of, stop_of, plan_of}
 use Rattle.guard_run.specs.Gates.{Gates, issued_by, kept, still_waiting}
 use Rattle.guard_run.specs.Runs.{with_released, bytes_between}
-use Rattle.guard_run.proofs.ListLaws.{steps_of, bytes_in, AllBelow, Climbs-front, behind-below, splits, split_IsPrefix, count-before, before-again, before-drop, before-long, filter-map-steps}
+use Rattle.guard_run.proofs.ListLaws.{steps_of, bytes_in, AllBelow, Climbs-front, behind-below, splits, split_IsPrefix, count-before, before-again, before-drop, before-long, filter-map-steps, filter-all}
 use Rattle.guard_run.proofs.CourseLaws.{climbs, is_plan}
 use Rattle.guard_run.proofs.ItemLaws.{issued_IsPrefix}
 use Rattle.guard_run.proofs.IssueLaws.{issued_under}
-
--- a step at a place of a front
-front-at : (front whole : List ℕ) (i : ℕ) → IsPrefix front whole → i < length front → slice_index whole i ≡ slice_index front i
-front-at front whole i is less = ap (λ l. get_or l i 0) (sym is.joined) ∙ get_or_append_left front is.rest 0 i less
 
 -- what is below a bound comes first among output whose steps rise
 before-take : (bound low high : ℕ) (sent : List (ℕ × ℕ)) → Climbs low (steps_of sent) high → take (count_below bound (steps_of sent)) sent ≡ before_step bound sent
@@ -49,25 +47,12 @@ between-front c from count front is =
 none-behind : (bound low high : ℕ) (sent : List (ℕ × ℕ)) → Climbs low (steps_of sent) high → before_step bound (drop (count_below bound (steps_of sent)) sent) ≡ []
 none-behind bound low high sent climbs =
     let split = splits bound low high sent climbs in
-    ap (before_step bound) (ap (λ n. drop n sent) (count-before bound sent) ∙ ap (drop (length (before_step bound sent))) (sym split.joined) ∙ drop-front (before_step bound sent) split.rest) ∙ split.none
-  where
-    drop-front : (xs ys : List (ℕ × ℕ)) → drop (length xs) (xs ++ ys) ≡ ys
-    drop-front [] ys = refl
-    drop-front (x ∷ xs) ys = drop-front xs ys
-
-filter_all : (below : ℕ) (steps : List ℕ) → All (λ step. step < below) steps → filter (λ step. nat_lt step below) steps ≡ steps
-filter_all below [] all = refl
-filter_all below (step ∷ steps) all =
-    let less = All-head (λ step. step < below) step steps all in
-    let is : nat_lt step below ≡ true = grind (arith, less) in
-    ap (λ b. cond b (step ∷ filter (λ step. nat_lt step below) steps) (filter (λ step. nat_lt step below) steps)) is ∙ ap (λ l. step ∷ l) (filter_all below steps (All-tail (λ step. step < below) step steps all))
+    ap (before_step bound) (ap (λ n. drop n sent) (count-before bound sent) ∙ ap (drop (length (before_step bound sent))) (sym split.joined) ∙ drop-append_seam (before_step bound sent) split.rest) ∙ split.none
 
 module _ (c : Course) (is : IsCourse c) (from : Option ℕ) (a : ℕ) where
   issued_climbs : Climbs 0 (steps_of (issued_by c a)) (run_of c).steps
   issued_climbs =
-      let front = issued_IsPrefix c is a in
-      Climbs-front (steps_of (issued_by c a)) (steps_of front.rest) 0 (run_of c).steps
-      (subst (λ l. Climbs 0 l (run_of c).steps) (ap steps_of (sym front.joined) ∙ map-append (λ (byte : ℕ × ℕ). byte.0) (issued_by c a) front.rest) (climbs c is))
+      Climbs-front (steps_of (issued_by c a)) (steps_of (output_of c)) 0 (run_of c).steps (IsPrefix-map (λ (byte : ℕ × ℕ). byte.0) (issued_IsPrefix c is a)) (climbs c is)
 
   kept_by : (o : Option ℕ) → Climbs 0 (steps_of (kept o (issued_by c a))) (run_of c).steps × IsPrefix (kept o (issued_by c a)) (output_of c)
   kept_by None = (issued_climbs, issued_IsPrefix c is a)
@@ -112,7 +97,7 @@ module _ (c : Course) (core : CoreState) (sound : IsSound (plan_of c) core) wher
       All-from_get_or (λ (byte : ℕ × ℕ). byte.0 < stop_of c) (take core.released (output_of c)) (0, 0) (λ i less.
       let within : i < core.released = omega (arith, less, length-take-le core.released (output_of c) long) in
       let same : (get_or (take core.released (output_of c)) i (0, 0)).0 ≡ slice_index (steps_of (output_of c)) i =
-      ap (λ (byte : ℕ × ℕ). byte.0) (sym (get_or_append_left (take core.released (output_of c)) (drop core.released (output_of c)) (0, 0) i less) ∙ ap (λ l. get_or l i (0, 0)) (take-append-drop core.released (output_of c)))
+      ap (λ (byte : ℕ × ℕ). byte.0) (get_or-take core.released (output_of c) i (0, 0) within)
       ∙ sym (get_or-map (λ (byte : ℕ × ℕ). byte.0) (output_of c) i (0, 0) 0 (omega (arith, within, long))) in
       let below = at_step i within in omega (arith, below, same))
 
@@ -145,10 +130,7 @@ module _ (c : Course) (is : IsCourse c) (core : CoreState) (gate : GateState) (g
     passed_below =
         behind-below (take count gate.steps) gate.passed below (omega (arith, g.passed, approved))
         (subst (All (λ step. step < below)) (filter-climbs gate.steps (behind 0 (take core.released (steps_of all_kept))) (run_of c).steps below waiting_climbs)
-        (All-weaker (λ step. nat_lt step below ≡ true) (λ step. step < below) (λ step lt. less_of step below lt) (filter (λ step. nat_lt step below) gate.steps) (filter_passes (λ step. nat_lt step below) gate.steps)))
-      where
-        less_of : (a b : ℕ) → nat_lt a b ≡ true → a < b
-        less_of a b lt = grind (arith, lt)
+        (All-weaker (λ step. nat_lt step below ≡ true) (λ step. step < below) (λ step lt. ltb-true step below lt) (filter (λ step. nat_lt step below) gate.steps) (filter_passes (λ step. nat_lt step below) gate.steps)))
 
     pub after_release : Gates c (with_released core (core.released + count_below below gate.steps)) (with_release gate (count_below below gate.steps))
     after_release = record {
@@ -175,7 +157,8 @@ module _ (c : Course) (is : IsCourse c) (core : CoreState) (gate : GateState) (g
     step_is : (byte : ℕ) → core.released ≤ byte → byte < core.released + count → slice_index (steps_of (output_of c)) byte ≡ slice_index gate.steps (byte - core.released)
     step_is byte from to =
         let within : byte < length (steps_of all_kept) = omega (arith, to, room, length-map all_kept (λ (byte : ℕ × ℕ). byte.0)) in
-        front-at (steps_of all_kept) (steps_of (output_of c)) byte (IsPrefix-map (λ (byte : ℕ × ℕ). byte.0) front) within
+        let steps = IsPrefix-map (λ (byte : ℕ × ℕ). byte.0) front in
+        front_reads 0 (steps_of (output_of c)) (steps_of all_kept) steps.rest (sym steps.joined) byte within
         ∙ ap (λ n. slice_index (steps_of all_kept) n) (let e : byte ≡ core.released + (byte - core.released) = omega (arith, from) in e)
         ∙ sym (get_or-drop core.released (steps_of all_kept) (byte - core.released) 0)
         ∙ ap (λ l. slice_index l (byte - core.released)) (drop-map (λ (byte : ℕ × ℕ). byte.0) core.released all_kept ∙ sym g.steps)
@@ -218,7 +201,8 @@ module _ (c : Course) (is : IsCourse c) (core : CoreState) (gate : GateState) (g
     -- where the replica approves all that was appended, nothing waits behind a release
     pub none_waits : core.appended ≤ length (log_of c) → reached (plan_of c) core.appended ≤ below → drop (count_below below gate.steps) gate.steps ≡ []
     none_waits le all =
-        let every : filter (λ step. nat_lt step below) gate.steps ≡ gate.steps = filter_all below gate.steps (All-weaker (λ step. step < reached (plan_of c) core.appended) (λ step. step < below) (λ step less. omega (arith, less, all)) gate.steps (all_reached le)) in
+        let every : filter (λ step. nat_lt step below) gate.steps ≡ gate.steps =
+        filter-all (λ step. nat_lt step below) gate.steps (All-weaker (λ step. step < reached (plan_of c) core.appended) (λ step. nat_lt step below ≡ true) (λ step less. lt-ltb step below (omega (arith, less, all))) gate.steps (all_reached le)) in
         let whole : length (filter (λ step. nat_lt step below) gate.steps) ≡ length gate.steps = ap length every in
         drop_all (count_below below gate.steps) gate.steps (omega (arith, whole))
 
@@ -249,7 +233,7 @@ module _ (c : Course) (is : IsCourse c) (core : CoreState) (gate : GateState) (g
     still_is =
         ap (λ l. take (count_below (stop_of c) l) (still_waiting c core gate.from)) g.steps
         ∙ before-take (stop_of c) (behind 0 (take core.released (steps_of all_kept))) (run_of c).steps (still_waiting c core gate.from) still_climbs
-        ∙ before-drop (stop_of c) core.released all_kept kept_first
+        ∙ before-drop (stop_of c) core.released all_kept g.there kept_first
         ∙ ap (drop core.released) kept_again
 
     pub from_is : least_from gate.from (stop_of c) ≡ stop_of c

@@ -1,7 +1,7 @@
 -- A replica that takes a record stands where the core's events lead.
-use Rattle.std.proofs.Common.{◌≡◌, ℕ, suc, ◌+◌, ◌*◌, ◌<◌, ◌≤◌, Bool, true, List, [], ◌∷◌, length, take, reverse, Some, None, refl, sym, ap, subst, ◌∙◌, arith}
-use Rattle.std.specs.Prelude.{min, slice_index, slice_set, slice_get}
-use Rattle.std.proofs.lemmas.List.{reverse-append}
+use Rattle.std.proofs.Common.{◌≡◌, ℕ, ◌+◌, ◌*◌, ◌<◌, ◌≤◌, Bool, true, List, [], ◌∷◌, length, take, reverse, Some, None, sym, ap, subst, ◌∙◌, arith}
+use Rattle.std.specs.Prelude.{min, slice_set, slice_get}
+use Rattle.std.proofs.lemmas.List.{reverse-append, get_or-set_same}
 use Rattle.list_laws.proofs.PrefixLaws.{take-next}
 use Rattle.run_events.specs.declared.event.Event.{Event}
 use Rattle.run_events.specs.declared.record.Record.{Record}
@@ -33,9 +33,9 @@ pub follows_on : (c : Course) (core : CoreState) (before : HubState) (replica : 
 follows_on c core before replica f appended closed failed released hub stands sound =
     record { course = f.course; stands = stands; approved = f.approved; sound = sound; reader = f.reader; replays = f.replays; seen = f.seen; made = f.made; size = f.size }
 
-pub set_one : (xs : List ℕ) (y : ℕ) → length xs ≡ 1 → slice_index (slice_set xs 0 y) 0 ≡ y
-set_one [] y one = absurd (omega (arith, one))
-set_one (x ∷ xs) y one = refl
+-- a turn takes one record more
+pub one_taken : (c : Course) (core : CoreState) → length core.taken ≡ 1 → taken_by (after_turn c core) ≡ taken_by core + 1
+one_taken c core one = get_or-set_same core.taken 0 (taken_by core + 1) 0 (omega (arith, one))
 
 module _ (c : Course) (core : CoreState) (hub : HubState) (replica : Replica) (f : Follows c core hub replica) (item : Record) (gives : Gives hub replica.reader (Got item)) where
   gives_here : Gives (hub_of (plan_of c) core (verdict_of c (taken_by core) ∷ [])) 0 (Got item)
@@ -50,9 +50,7 @@ module _ (c : Course) (core : CoreState) (hub : HubState) (replica : Replica) (f
   -- the records taken, and this one
   pub longer : reverse (take (taken_by core + 1) (log_of c)) ≡ item ∷ reverse (take (taken_by core) (log_of c))
   longer =
-      ap (λ n. reverse (take n (log_of c))) (let e : taken_by core + 1 ≡ suc (taken_by core) = omega arith in e)
-      ∙ ap reverse (take-next (taken_by core) (log_of c) item law.1)
-      ∙ reverse-append (take (taken_by core) (log_of c)) (item ∷ [])
+      ap reverse (take-next (taken_by core) (log_of c) item law.1) ∙ reverse-append (take (taken_by core) (log_of c)) (item ∷ [])
 
   pub fits : first_fault_back c.start (item ∷ reverse (take (taken_by core) (log_of c))) ≡ None
   fits = subst (λ l. first_fault_back c.start l ≡ None) longer (front_fits c f.course (taken_by core + 1))
@@ -64,7 +62,7 @@ module _ (c : Course) (core : CoreState) (hub : HubState) (replica : Replica) (f
   seen_before = subst (HasSeen replica.analysis) (sym (front_shows c f.course (taken_by core))) f.seen
 
   one_more : taken_by (after_event (plan_of c) core (TakeNext 0)) ≡ taken_by core + 1
-  one_more = set_one core.taken (taken_by core + 1) f.sound.taken
+  one_more = one_taken c core f.sound.taken
 
   hub_taken : with_take hub replica.reader ≡ hub_of (plan_of c) (after_event (plan_of c) core (TakeNext 0)) (verdict_of c (taken_by core) ∷ [])
   hub_taken = (λ i. with_take (f.stands i) (f.reader i)) ∙ law.0.after

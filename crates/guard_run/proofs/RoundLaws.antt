@@ -19,7 +19,7 @@ use Rattle.guard_run.specs.Runs.{IsAt, IsIdle, HasPassed, HasReleased, HasBroken
 use Rattle.guard_run.specs.Sources.{still_to_come}
 use Rattle.guard_run.proofs.CourseLaws.{reach_less}
 use Rattle.guard_run.proofs.ItemLaws.{length_log}
-use Rattle.guard_run.proofs.ReplicaLaws.{set_one}
+use Rattle.guard_run.proofs.ReplicaLaws.{one_taken}
 
 -- the turns of the recorder that are left, in the core's numbers
 abbrev left_of : Course → CoreState → ℕ
@@ -63,7 +63,7 @@ pub record IsCaughtUp (c : Course) (core : CoreState) (turn : Turn) (after : Par
 
 gates_turned : (c : Course) (core : CoreState) (parts : Parts) (at : IsAt c core parts) (hub : HubState) (replica : Replica) → Follows c (after_turn c core) hub replica → Gates c (after_turn c core) parts.gate
 gates_turned c core parts at hub replica follows =
-    let number : taken_by (after_turn c core) ≡ taken_by core + 1 = set_one core.taken (taken_by core + 1) at.follows.sound.taken in
+    let number : taken_by (after_turn c core) ≡ taken_by core + 1 = one_taken c core at.follows.sound.taken in
     let before : slice_index core.approved 0 ≡ min (stop_of c) (reached (plan_of c) (taken_by core)) = ap (λ l. slice_index l 0) at.follows.approved in
     let now : slice_index (after_turn c core).approved 0 ≡ min (stop_of c) (reached (plan_of c) (taken_by (after_turn c core))) = ap (λ l. slice_index l 0) follows.approved in
     let more = reach_less c at.follows.course (taken_by core) (taken_by (after_turn c core)) (omega (arith, number)) in
@@ -80,12 +80,12 @@ gates_turned c core parts at hub replica follows =
       few = at.gates.few;
     }
 
-caught_up_by : (c : Course) (core : CoreState) (parts : Parts) (r : IsRecorded c core parts) (turn : Turn) (hub : HubState) (replica : Replica)
+pub caught_up : (c : Course) (core : CoreState) (parts : Parts) (r : IsRecorded c core parts) (turn : Turn) (hub : HubState) (replica : Replica)
     → Turned c r.next turn parts.hub hub parts.replica replica → IsCaughtUp c core turn (with_replica parts hub replica)
-caught_up_by c core parts r Took hub replica turned = by r.how
+caught_up c core parts r Took hub replica turned = by r.how
   where
     number : taken_by (after_turn c r.next) ≡ taken_by r.next + 1
-    number = set_one r.next.taken (taken_by r.next + 1) r.at.follows.sound.taken
+    number = one_taken c r.next r.at.follows.sound.taken
 
     by : ((core.closed ≡ false) × (r.next.closed ≡ false) × (core.appended < length (log_of c)) × (r.next.appended ≡ core.appended + 1) × (taken_by r.next ≡ core.appended)) ⊎ ((r.next.closed ≡ true) × (taken_by r.next ≡ r.next.appended))
         → IsCaughtUp c core Took (with_replica parts hub replica)
@@ -97,12 +97,12 @@ caught_up_by c core parts r Took hub replica turned = by r.how
       how = inr (refl, omega (arith, appended, more, ap {B = ℕ} (λ b. cond b 0 1) was_open, ap {B = ℕ} (λ b. cond b 0 1) is_open));
     }
     by (inr (closed, taken)) = absurd (omega (arith, taken, turned.0))
-caught_up_by c core parts r Empty hub replica turned = absurd (by r.how)
+caught_up c core parts r Empty hub replica turned = absurd (by r.how)
   where
     by : ((core.closed ≡ false) × (r.next.closed ≡ false) × (core.appended < length (log_of c)) × (r.next.appended ≡ core.appended + 1) × (taken_by r.next ≡ core.appended)) ⊎ ((r.next.closed ≡ true) × (taken_by r.next ≡ r.next.appended)) → ⊥
     by (inl (was_open, is_open, more, appended, taken)) = omega (arith, appended, taken, turned.1.all)
     by (inr (closed, taken)) = true≢false (sym closed ∙ turned.0)
-caught_up_by c core parts r Closed hub replica turned = record {
+caught_up c core parts r Closed hub replica turned = record {
   next = r.next;
   at = record {
     follows = subst (λ h. Follows c r.next h replica) (sym turned.1.same_hub) (subst (λ p. Follows c r.next parts.hub p) (sym turned.1.same_replica) r.at.follows);
@@ -115,10 +115,6 @@ caught_up_by c core parts r Closed hub replica turned = record {
   taken = turned.1.all;
   how = inl (refl, turned.0);
 }
-
-pub caught_up : (c : Course) (core : CoreState) (parts : Parts) (r : IsRecorded c core parts) (turn : Turn) (hub : HubState) (replica : Replica)
-    → Turned c r.next turn parts.hub hub parts.replica replica → IsCaughtUp c core turn (with_replica parts hub replica)
-caught_up = caught_up_by
 
 -- the gate's turn ends the round
 module _ (c : Course) (core : CoreState) (turn : Turn) (before parts after : Parts) (idle : IsIdle c core before) (up : IsCaughtUp c core turn parts) where

@@ -1,6 +1,7 @@
 -- A turn of the gate, where the core stands.
-use Rattle.std.proofs.Common.{◌≡◌, inr, ℕ, ◌+◌, ◌<◌, ◌≤◌, true, false, List, length, take, refl, sym, ap, subst, ◌∙◌, arith, ◌⊎◌, inl, Some, zero, suc, ◌-◌, true≢false}
-use Rattle.std.specs.Prelude.{min, nat_lt, slice_index}
+use Rattle.std.proofs.Common.{◌≡◌, inr, ℕ, ◌+◌, ◌<◌, ◌≤◌, true, false, List, length, take, refl, sym, ap, subst, ◌∙◌, arith, ◌⊎◌, inl, Some, zero, suc, ◌-◌, true≢false, ltb-true, ltb-false, le_of_lt}
+use Rattle.std.specs.Prelude.{min, slice_index}
+use Rattle.std.proofs.Math.Nat.{min-eq_left}
 use Rattle.after_edge.specs.Sink.{Adds, AddsPart}
 use Rattle.after_edge.proofs.SinkLaws.{Adds-same, AddsPart-same}
 use Rattle.gate_core.specs.declared.verdict.Verdict.{Verdict}
@@ -50,20 +51,14 @@ module _ (c : Course) (core : CoreState) (parts : Parts) (at : IsAt c core parts
     -- what the replica says in numbers
     refuses_at : verdict.refused ≡ true → verdict.approved ≡ stop_of c
     refuses_at refused =
-        let low : nat_lt (stop_of c) (reached (plan_of c) (taken_by core)) ≡ true = ap (λ (v : Verdict). v.refused) (sym is) ∙ refused in
-        ap (λ (v : Verdict). v.approved) is ∙ min_left (stop_of c) (reached (plan_of c) (taken_by core)) low
-      where
-        min_left : (a b : ℕ) → nat_lt a b ≡ true → min a b ≡ a
-        min_left a b less = let lt : a < b = grind (arith, less) in omega (arith, lt)
+        let low : stop_of c < reached (plan_of c) (taken_by core) = ltb-true (stop_of c) (reached (plan_of c) (taken_by core)) (ap (λ (v : Verdict). v.refused) (sym is) ∙ refused) in
+        ap (λ (v : Verdict). v.approved) is ∙ min-eq_left (le_of_lt low)
 
     lets_all : verdict.refused ≡ false → reached (plan_of c) (taken_by core) ≤ verdict.approved
     lets_all passes =
-        let high : nat_lt (stop_of c) (reached (plan_of c) (taken_by core)) ≡ false = ap (λ (v : Verdict). v.refused) (sym is) ∙ passes in
+        let high : reached (plan_of c) (taken_by core) ≤ stop_of c = ltb-false (stop_of c) (reached (plan_of c) (taken_by core)) (ap (λ (v : Verdict). v.refused) (sym is) ∙ passes) in
         let approved : verdict.approved ≡ min (stop_of c) (reached (plan_of c) (taken_by core)) = ap (λ (v : Verdict). v.approved) is in
-        omega (arith, approved, min_right (stop_of c) (reached (plan_of c) (taken_by core)) high)
-      where
-        min_right : (a b : ℕ) → nat_lt a b ≡ false → b ≤ min a b
-        min_right a b less = let le : b ≤ a = grind (arith, less) in omega (arith, le)
+        omega (arith, approved, high)
 
     exact_count : core.released + count_below verdict.approved parts.gate.steps ≡ core.released + count_below (slice_index core.approved 0) parts.gate.steps
     exact_count = ap (λ n. core.released + count_below n parts.gate.steps) (sym approves)

@@ -1,1 +1,3 @@
+pub mod OptionLaws
+pub mod PlaceLaws
 pub mod PrefixLaws

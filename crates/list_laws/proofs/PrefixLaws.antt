@@ -1,8 +1,8 @@
 -- Fronts of lists, joined and compared.
-use Rattle.std.proofs.Common.{◌≡◌, ℕ, zero, suc, ◌≤◌, List, [], ◌∷◌, ◌++◌, length, take, drop, map, Some, arith, refl, sym, ◌∙◌, ap, append_assoc, append-nil, length-append, take-append-drop}
+use Rattle.std.proofs.Common.{◌≡◌, ℕ, ◌≤◌, List, [], ◌∷◌, ◌++◌, length, take, drop, map, Some, arith, refl, sym, ◌∙◌, ap, append_assoc, append-nil, length-append, take-append-drop, ◌+◌}
 use Rattle.std.specs.Prelude.{slice_get}
-use Rattle.std.specs.Option.{option_to_list}
-use Rattle.std.proofs.lemmas.List.{map-append, take-append-le}
+use Rattle.std.proofs.lemmas.List.{map-append, take-append-le, take_more}
+use Rattle.std.proofs.lemmas.Option.{get_or_from_slice_get, slice_get_within}
 use Rattle.list_laws.specs.Prefix.{IsPrefix}
 
 -- a list is a front of itself
@@ -12,10 +12,6 @@ whole_IsPrefix xs = record { rest = []; joined = append-nil xs }
 -- nothing is a front of each list
 pub empty_IsPrefix : {X : Type 0} (xs : List X) → IsPrefix [] xs
 empty_IsPrefix xs = record { rest = xs; joined = refl }
-
--- the first of two joined lists is a front
-pub left_IsPrefix : {X : Type 0} (xs ys : List X) → IsPrefix xs (xs ++ ys)
-left_IsPrefix xs ys = record { rest = ys; joined = refl }
 
 -- the same list before both sides
 pub IsPrefix-after : {X : Type 0} (before : List X) {front whole : List X} → IsPrefix front whole → IsPrefix (before ++ front) (before ++ whole)
@@ -46,7 +42,5 @@ pub IsPrefix-take : {X : Type 0} (k : ℕ) (front whole : List X) → IsPrefix f
 IsPrefix-take k front whole p le = sym (take-append-le k front p.rest le) ∙ ap (take k) p.joined
 
 -- one item more of a list
-pub take-next : {X : Type 0} (k : ℕ) (xs : List X) (x : X) → slice_get xs k ≡ Some x → take (suc k) xs ≡ take k xs ++ x ∷ []
-take-next k [] x is = cc
-take-next zero (y ∷ xs) x is = ap (λ o. option_to_list o) is
-take-next (suc k) (y ∷ xs) x is = ap (λ l. y ∷ l) (take-next k xs x is)
+pub take-next : {X : Type 0} (k : ℕ) (xs : List X) (x : X) → slice_get xs k ≡ Some x → take (k + 1) xs ≡ take k xs ++ x ∷ []
+take-next k xs x is = take_more xs k x (slice_get_within xs k x is) ∙ ap (λ y. take k xs ++ y ∷ []) (get_or_from_slice_get xs k x x is)

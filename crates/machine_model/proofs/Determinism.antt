@@ -1,6 +1,6 @@
 -- A run's own log fits its guest, record by record, and what is shown of it are the run's own events.
-use Rattle.std.proofs.Common.{◌≡◌, ◌⊎◌, inl, inr, ⊎_elim, ℕ, zero, suc, ◌+◌, ◌<◌, ◌≤◌, Bool, true, false, cond, List, [], ◌∷◌, ◌++◌, Option, Some, None, refl, sym, ap, subst, ◌∙◌, arith, append-nil, append_assoc}
-use Rattle.std.specs.Prelude.{◌||◌, ◌&&◌, not, ◌==◌, ◌%◌, nat_lt, is_some}
+use Rattle.std.proofs.Common.{◌≡◌, ℕ, zero, suc, ◌+◌, ◌<◌, ◌≤◌, Bool, true, false, cond, List, [], ◌∷◌, ◌++◌, Option, Some, None, refl, sym, ap, subst, ◌∙◌, arith, append-nil, append_assoc, below_more}
+use Rattle.std.specs.Prelude.{◌||◌, ◌&&◌, not, ◌==◌, ◌%◌, is_some}
 use Rattle.std.specs.Option.{option_and_then, option_map, option_or}
 use Rattle.std.specs.List.{flat_map}
 use Rattle.std.proofs.lemmas.Bool.Decides.{nat_tests}
@@ -27,7 +27,7 @@ abbrev pub AllClear : ℕ → State → Type 0
 AllClear n start = (k : ℕ) → k < n → IsClear k start
 
 -- no step below a number ends elsewhere, as seen from a record
-first_end-none : (n : ℕ) (start : State) (item : Record) → ((k : ℕ) → k < n → ends_at k start item ≡ false) → first_end n start item ≡ None
+pub first_end-none : (n : ℕ) (start : State) (item : Record) → ((k : ℕ) → k < n → ends_at k start item ≡ false) → first_end n start item ≡ None
 unfolding first_end
 first_end-none zero start item none = refl
 first_end-none (suc n) start item none =
@@ -41,36 +41,34 @@ clear_ends_not k start item clear = ap (λ b. b || is_elsewhere k (power_at k st
 all_clear_ends_not : (n : ℕ) (start : State) (item : Record) → AllClear n start → first_end n start item ≡ None
 all_clear_ends_not n start item clear = first_end-none n start item (λ k lt. clear_ends_not k start item (clear k lt))
 
--- the step of a state that is reached, and the state behind it
-here_event : (j : ℕ) (start s : State) → state_at j start ≡ Some s → event_at j start ≡ shown_at s
-here_event j start s at = ap (option_and_then shown_at) at
-
-next_state : (j : ℕ) (start s : State) → state_at j start ≡ Some s → state_at (suc j) start ≡ next_of s
+-- the first state, and each one from the one before
+pub state_at-first : (start : State) → state_at 0 start ≡ Some start
 unfolding state_at
-next_state j start s at = ap (option_and_then next_of) at
+state_at-first start = refl
+
+pub state_at-suc : (k : ℕ) (start : State) → state_at (suc k) start ≡ option_and_then next_of (state_at k start)
+unfolding state_at
+state_at-suc k start = refl
+
+-- the step of a state that is reached
+pub here_event : (j : ℕ) (start s : State) → state_at j start ≡ Some s → event_at j start ≡ shown_at s
+here_event j start s at = ap (option_and_then shown_at) at
 
 module _ (start s next : State) (event : Event) (j : ℕ) (at : state_at j start ≡ Some s) (is : step_from s ≡ Some (event, next)) where
   pub stepped_event : event_at j start ≡ Some event
   stepped_event = here_event j start s at ∙ ap (option_map (λ (step : Event × State). step.0)) is
 
   pub stepped_state : state_at (suc j) start ≡ Some next
-  stepped_state = next_state j start s at ∙ ap (option_map (λ (step : Event × State). step.1)) is
+  stepped_state = state_at-suc j start ∙ ap (option_and_then next_of) at ∙ ap (option_map (λ (step : Event × State). step.1)) is
 
   stepped_built : is_stuck j start ≡ false
   stepped_built = ap (λ (o : Option Event). not (is_some o)) stepped_event
 
-  stepped_power : power_at j start ≡ power_status event
+  pub stepped_power : power_at j start ≡ power_status event
   stepped_power = ap (option_and_then power_status) stepped_event
 
 all_clear_more : (j : ℕ) (start : State) → AllClear j start → IsClear j start → AllClear (suc j) start
-all_clear_more j start clear here = λ k lt. by_place k (earlier_or_here k j lt)
-  where
-    earlier_or_here : (k j : ℕ) → k < suc j → (k < j) ⊎ (k ≡ j)
-    earlier_or_here k j lt = grind arith
-
-    by_place : (k : ℕ) → (k < j) ⊎ (k ≡ j) → IsClear k start
-    by_place k (inl lt) = clear k lt
-    by_place k (inr is) = subst (λ i. IsClear i start) (sym is) here
+all_clear_more j start clear here = λ k lt. below_more (λ i. IsClear i start) j clear here k (omega (arith, lt))
 
 -- the records so far, the last one first: none, or a mark that at most these steps are done
 abbrev pub IsOpen : List Record → ℕ → Type 0
@@ -81,17 +79,9 @@ IsOpen (Lines step bits ∷ before) j = ⊥
 IsOpen (Dma step address word mark ∷ before) j = ⊥
 IsOpen (End step cause ∷ before) j = ⊥
 
-less_or_same : (m j : ℕ) → m ≤ j → (nat_lt m j ≡ true) ⊎ ((nat_lt m j ≡ false) × ((m == j) ≡ true))
-less_or_same m j le = ⊎_elim (λ (lt : m < j). inl (grind (arith, nat_tests))) (λ (is : m ≡ j). inr (grind (arith, nat_tests), grind (arith, nat_tests))) (split m j le)
-  where
-    split : (m j : ℕ) → m ≤ j → (m < j) ⊎ (m ≡ j)
-    split m j le = grind arith
-
 admits_reach : (before : List Record) (j : ℕ) → IsOpen before j → is_admitted before (Reach (suc j)) ≡ true
 admits_reach [] j open' = refl
-admits_reach (Reach step ∷ before) j le =
-    let lt : nat_lt step (suc j) ≡ true = grind (arith, nat_tests, le) in
-    ap (λ b. b || (step == suc j && false)) lt
+admits_reach (Reach step ∷ before) j le = grind (arith, nat_tests, le)
 admits_reach (Load step value mark ∷ before) j open' = absurd open'
 admits_reach (Lines step bits ∷ before) j open' = absurd open'
 admits_reach (Dma step address word mark ∷ before) j open' = absurd open'
@@ -99,8 +89,7 @@ admits_reach (End step cause ∷ before) j open' = absurd open'
 
 admits_end : (before : List Record) (j : ℕ) (cause : EndCause) → IsOpen before j → is_admitted before (End j cause) ≡ true
 admits_end [] j cause open' = refl
-admits_end (Reach step ∷ before) j cause le =
-    ⊎_elim (λ lt. ap (λ b. b || (step == j && true)) lt) (λ same. ap (λ b. b || (step == j && true)) same.0 ∙ ap (λ b. b && true) same.1) (less_or_same step j le)
+admits_end (Reach step ∷ before) j cause le = grind (arith, nat_tests, le)
 admits_end (Load step value mark ∷ before) j cause open' = absurd open'
 admits_end (Lines step bits ∷ before) j cause open' = absurd open'
 admits_end (Dma step address word mark ∷ before) j cause open' = absurd open'
@@ -143,15 +132,9 @@ open_later (Dma step address word mark ∷ before) j open' = open'
 open_later (End step cause ∷ before) j open' = open'
 
 -- one step that is executed behind clear ones: no record that follows it finds it elsewhere
-below_more : (j : ℕ) (start : State) (item : Record) → AllClear j start → ends_at j start item ≡ false → first_end (suc j) start item ≡ None
-below_more j start item clear here = first_end-none (suc j) start item (λ k lt. by_place k (earlier_or_here k lt))
-  where
-    earlier_or_here : (k : ℕ) → k < suc j → (k < j) ⊎ (k ≡ j)
-    earlier_or_here k lt = grind arith
-
-    by_place : (k : ℕ) → (k < j) ⊎ (k ≡ j) → ends_at k start item ≡ false
-    by_place k (inl lt) = clear_ends_not k start item (clear k lt)
-    by_place k (inr is) = subst (λ i. ends_at i start item ≡ false) (sym is) here
+one_more_ends_not : (j : ℕ) (start : State) (item : Record) → AllClear j start → ends_at j start item ≡ false → first_end (suc j) start item ≡ None
+one_more_ends_not j start item clear here =
+    first_end-none (suc j) start item (λ k lt. below_more (λ i. ends_at i start item ≡ false) j (λ i low. clear_ends_not i start item (clear i low)) here k (omega (arith, lt)))
 
 follows_power : (j status : ℕ) → is_after_power (j + 1) status (Reach (suc j)) ≡ true
 follows_power j status = grind (arith, nat_tests)
@@ -172,7 +155,7 @@ module _ (start s next : State) (event : Event) (j : ℕ) (at : state_at j start
   mark_fits : (before : List Record) (o : Option ℕ) → power_status event ≡ o → AllClear j start → IsOpen before j → first_fault_back start before ≡ None → first_fault_back start (Reach (suc j) ∷ before) ≡ None
   mark_fits before o power clear open' fits =
       fits_more start before (Reach (suc j)) fits
-      (no_fault start before (Reach (suc j)) (admits_reach before j open') (below_more j start (Reach (suc j)) clear (ends_not_by (Reach (suc j)) o power (not_elsewhere o))) refl)
+      (no_fault start before (Reach (suc j)) (admits_reach before j open') (one_more_ends_not j start (Reach (suc j)) clear (ends_not_by (Reach (suc j)) o power (not_elsewhere o))) refl)
     where
       not_elsewhere : (o : Option ℕ) → is_elsewhere j o (Reach (suc j)) ≡ false
       not_elsewhere None = refl
@@ -202,7 +185,7 @@ log_stuck left start s none before at clear open' fits =
     subst (λ run. FitsOn start before (log run)) (sym (run_from-stuck left s none))
     (fits_end start before s.step Stuck fits open' (all_clear_ends_not s.step start (End s.step Stuck) clear) stuck)
 
-same_step : (s next : State) (event : Event) → step_from s ≡ Some (event, next) → next.step ≡ suc s.step
+pub same_step : (s next : State) (event : Event) → step_from s ≡ Some (event, next) → next.step ≡ suc s.step
 same_step s next event is = let counted = (step_from-IsStep s event next is).counted in omega arith
 
 mark_of : (s next : State) (event : Event) → step_from s ≡ Some (event, next) → step_of event + 1 ≡ suc s.step
@@ -223,7 +206,7 @@ log_power_fits left start s next event status is power before at clear open' fit
     let last : (behind : List Record) → IsOpen behind (suc s.step) → first_fault_back start behind ≡ None → FitsOn start behind (End next.step (Power status) ∷ []) = λ behind opened fits'.
     subst (λ n. FitsOn start behind (End n (Power status) ∷ [])) (sym steps)
     (fits_end start behind (suc s.step) (Power status) fits' opened
-    (below_more s.step start (End (suc s.step) (Power status)) clear (ends_not_by start s next event s.step at is (End (suc s.step) (Power status)) (Some status) power (ap not (ends_power s.step status))))
+    (one_more_ends_not s.step start (End (suc s.step) (Power status)) clear (ends_not_by start s next event s.step at is (End (suc s.step) (Power status)) (Some status) power (ap not (ends_power s.step status))))
     (ap (has_status status) (stepped_power start s next event s.step at is ∙ power) ∙ same_number status)) in
     subst (λ run. FitsOn start before (log run)) (sym run_is)
     (subst (FitsOn start before) (sym (log_power event next.step status)) (behind_event start s next event before (End next.step (Power status) ∷ []) (Some status) at is power clear open' fits last))
@@ -253,15 +236,11 @@ log_fits_on : (left : ℕ) (start s : State) → LogFits left start s
 log_fits_on zero start s = log_at_limit start s
 log_fits_on (suc left) start s = log_by_step left start s (λ next. log_fits_on left start next) (step_from s) refl
 
-no_fault_yet : (start : State) → first_fault_back start [] ≡ None
+pub no_fault_yet : (start : State) → first_fault_back start [] ≡ None
 unfolding first_fault_back
 no_fault_yet start = refl
-
-start_state : (start : State) → state_at 0 start ≡ Some start
-unfolding state_at
-start_state start = refl
 
 -- each front of the log of a run from step 0 fits the guest
 pub log_FitsOn : (limit : ℕ) (start : State) → start.step ≡ 0 → FitsOn start [] (log (run_from limit start))
 log_FitsOn limit start first =
-    log_fits_on limit start start [] (subst (λ n. state_at n start ≡ Some start) (sym first) (start_state start)) (λ k lt. absurd (omega (arith, first))) tt (no_fault_yet start)
+    log_fits_on limit start start [] (subst (λ n. state_at n start ≡ Some start) (sym first) (state_at-first start)) (λ k lt. absurd (omega (arith, first))) tt (no_fault_yet start)

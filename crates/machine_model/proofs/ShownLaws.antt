@@ -13,34 +13,38 @@ use Rattle.machine_model.specs.State.{State}
 use Rattle.machine_model.specs.Step.{step_from}
 use Rattle.machine_model.specs.Run.{Finished, run_from, power_status, serial_byte, records_of, log}
 use Rattle.machine_model.specs.Replay.{state_at, event_at, events_below, Fault, fault_of, fault_behind, first_fault_back, executed_to, executed_behind, executed_back, shown_back}
-use Rattle.machine_model.proofs.Determinism.{stepped_event, stepped_state}
+use Rattle.machine_model.proofs.Determinism.{state_at-first, stepped_event, stepped_state, same_step}
 use Rattle.machine_model.proofs.NumberLaws.{Numbered, IsNumbered}
-use Rattle.machine_model.proofs.RunLaws.{step_from-IsStep, run_from-limit, run_from-stuck, run_from-power, run_from-goes}
+use Rattle.machine_model.proofs.RunLaws.{run_from-limit, run_from-stuck, run_from-power, run_from-goes}
 
--- a list that fits has executed its reach
-fits_parts : (start : State) (before : List Record) (item : Record) (o : Option Fault) → fault_behind start before item o ≡ None → (o ≡ None) × (fault_of start before item ≡ None)
-fits_parts start before item (Some fault) is = absurd (cc)
-fits_parts start before item None is = (refl, is)
-
-first_fault_back-cons : (start : State) (before : List Record) (item : Record) → first_fault_back start (item ∷ before) ≡ fault_behind start before item (first_fault_back start before)
+pub first_fault_back-cons : (start : State) (before : List Record) (item : Record) → first_fault_back start (item ∷ before) ≡ fault_behind start before item (first_fault_back start before)
 unfolding first_fault_back
 first_fault_back-cons start before item = refl
 
-executed_back-cons : (start : State) (before : List Record) (item : Record) → executed_back start (item ∷ before) ≡ executed_behind start before item (first_fault_back start before) (executed_back start before)
+pub executed_back-cons : (start : State) (before : List Record) (item : Record) → executed_back start (item ∷ before) ≡ executed_behind start before item (first_fault_back start before) (executed_back start before)
 unfolding executed_back
 executed_back-cons start before item = refl
 
-executed_none : (start : State) → executed_back start [] ≡ 0
+pub executed_none : (start : State) → executed_back start [] ≡ 0
 unfolding executed_back
 executed_none start = refl
 
+-- the parts of a list that fits
+pub fits_parts : (start : State) (before : List Record) (item : Record) → first_fault_back start (item ∷ before) ≡ None → (first_fault_back start before ≡ None) × (fault_of start before item ≡ None)
+fits_parts start before item fits = by (first_fault_back start before) (sym (first_fault_back-cons start before item) ∙ fits)
+  where
+    by : (o : Option Fault) → fault_behind start before item o ≡ None → (o ≡ None) × (fault_of start before item ≡ None)
+    by (Some fault) is = absurd (cc)
+    by None is = (refl, is)
+
+-- a list that fits has executed its reach
 pub executed_fits : (start : State) (items : List Record) → first_fault_back start items ≡ None → executed_back start items ≡ reach_back items
 executed_fits start [] fits = executed_none start
 executed_fits start (item ∷ before) fits =
-    let parts = fits_parts start before item (first_fault_back start before) (sym (first_fault_back-cons start before item) ∙ fits) in
+    let parts = fits_parts start before item fits in
     executed_back-cons start before item ∙ ap (λ o. executed_behind start before item o (executed_back start before)) parts.0 ∙ ap (executed_to start before item) parts.1
 
-events_below-suc : (k : ℕ) (start : State) → events_below (suc k) start ≡ events_below k start ++ option_to_list (event_at k start)
+pub events_below-suc : (k : ℕ) (start : State) → events_below (suc k) start ≡ events_below k start ++ option_to_list (event_at k start)
 unfolding events_below
 events_below-suc k start = refl
 
@@ -59,9 +63,8 @@ shows_none start s run = ap (λ n. events_below n start) (let e : s.step + 0 ≡
 shows_behind : (start s next : State) (event : Event) (i : ℕ) (rest : List Event) → state_at s.step start ≡ Some s → step_from s ≡ Some (event, next)
     → events_below (next.step + i) start ≡ events_below next.step start ++ take i rest → events_below (s.step + suc i) start ≡ events_below s.step start ++ take (suc i) (event ∷ rest)
 shows_behind start s next event i rest at is then =
-    let counted = (step_from-IsStep s event next is).counted in
+    let next_is = same_step s next event is in
     let there : s.step + suc i ≡ next.step + i = omega arith in
-    let next_is : next.step ≡ suc s.step = omega arith in
     let one : events_below next.step start ≡ events_below s.step start ++ event ∷ []
     = ap (λ n. events_below n start) next_is ∙ events_below-suc s.step start ∙ ap (λ o. events_below s.step start ++ option_to_list o) (stepped_event start s next event s.step at is) in
     ap (λ n. events_below n start) there ∙ then ∙ ap (λ l. l ++ take i rest) one ∙ append_assoc (events_below s.step start) (event ∷ []) (take i rest)
@@ -78,8 +81,7 @@ shows_goes : (left : ℕ) (start s next : State) (event : Event) → step_from s
 shows_goes left start s next event is power again zero at within = shows_none start s (run_from (suc left) s)
 shows_goes left start s next event is power again (suc i) at within =
     let run_is = run_from-goes left s next event is power in
-    let counted = (step_from-IsStep s event next is).counted in
-    let next_is : next.step ≡ suc s.step = omega arith in
+    let next_is = same_step s next event is in
     let at_next : state_at next.step start ≡ Some next = subst (λ n. state_at n start ≡ Some next) (sym next_is) (stepped_state start s next event s.step at is) in
     let inside : i ≤ length (run_from left next).events = let len = ap (λ (run : Finished). length run.events) run_is in omega arith in
     subst (λ run. events_below (s.step + suc i) start ≡ events_below s.step start ++ take (suc i) run.events) (sym run_is) (shows_behind start s next event i (run_from left next).events at is (again i at_next inside))
@@ -100,14 +102,10 @@ shows : (left : ℕ) (start s : State) → Shows left start s
 shows zero start s = λ i at within. shows_ended start s (run_from 0 s) (ap (λ (run : Finished). run.events) (run_from-limit s)) i within
 shows (suc left) start s = shows_by_step left start s (λ next. shows left start next) (step_from s) refl
 
-start_state : (start : State) → state_at 0 start ≡ Some start
-unfolding state_at
-start_state start = refl
-
 -- the events below a number are the run's first ones
 pub events_below-run : (limit : ℕ) (start : State) (m : ℕ) → start.step ≡ 0 → m ≤ length (run_from limit start).events → events_below m start ≡ take m (run_from limit start).events
 events_below-run limit start m first within =
-    let at : state_at start.step start ≡ Some start = subst (λ n. state_at n start ≡ Some start) (sym first) (start_state start) in
+    let at : state_at start.step start ≡ Some start = subst (λ n. state_at n start ≡ Some start) (sym first) (state_at-first start) in
     let whole = shows limit start start m at within in
     let number_is : start.step + m ≡ m = omega arith in
     ap (λ n. events_below n start) (sym number_is) ∙ whole ∙ ap (λ n. events_below n start ++ take m (run_from limit start).events) first ∙ ap (λ l. l ++ take m (run_from limit start).events) (events_below-zero start)

@@ -2,13 +2,13 @@
 use Rattle.std.proofs.Common.{◌≡◌, ℕ, zero, suc, ◌+◌, ◌<◌, ◌≤◌, inl, inr, Bool, true, false, cond, nat_lt, List, [], ◌∷◌, ◌++◌, length, take, drop, min, slice_index, slice_get, None, arith, refl, sym, ap, subst, ◌∙◌}
 use Rattle.std.specs.List.{filter}
 use Rattle.std.proofs.lemmas.Bool.{cases_lt}
+use Rattle.std.proofs.lemmas.List.Sums.{length-filter, count_by-le-length}
+use Rattle.std.proofs.lemmas.Option.{none-some, slice_get-get_or}
 use Rattle.output_gate.specs.Gate.{Climbs, count_below, behind}
 
 -- where no item is found, the place is past the end
 pub no_item_past : (items : List ℕ) (place : ℕ) → slice_get items place ≡ None → place < length items → ⊥
-no_item_past [] place none less = absurd (omega arith)
-no_item_past (item ∷ items) zero none less = absurd (cc)
-no_item_past (item ∷ items) (suc place) none less = no_item_past items place none (omega arith)
+no_item_past items place none less = none-some (slice_index items place) (sym none ∙ slice_get-get_or items place 0 less)
 
 -- more room on both sides
 pub Climbs-wider : (steps : List ℕ) (low less high more : ℕ) → less ≤ low → high ≤ more → Climbs low steps high → Climbs less steps more
@@ -80,8 +80,7 @@ count_below-more below step steps =
 
 -- no more steps are below than there are
 pub count_below-within : (below : ℕ) (steps : List ℕ) → count_below below steps ≤ length steps
-count_below-within below [] = omega arith
-count_below-within below (step ∷ steps) = omega (arith, count_below-more below step steps, count_below-within below steps)
+count_below-within below steps = omega (arith, length-filter (λ step. nat_lt step below) steps, count_by-le-length (λ step. nat_lt step below) steps)
 
 -- the steps that are below are the first ones
 pub filter-climbs : (steps : List ℕ) (low high below : ℕ) → Climbs low steps high → filter (λ step. nat_lt step below) steps ≡ take (count_below below steps) steps

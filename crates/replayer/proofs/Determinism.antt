@@ -1,13 +1,12 @@
 -- Each front of a run's own log fits its guest, and what is shown of it are the run's first events.
-use Rattle.std.proofs.Common.{◌≡◌, ℕ, ◌+◌, ◌≤◌, List, [], ◌∷◌, ◌++◌, length, take, None, refl, sym, ap, subst, ◌∙◌, arith}
+use Rattle.std.proofs.Common.{◌≡◌, ℕ, ◌≤◌, List, [], ◌∷◌, ◌++◌, take, None, sym, subst, ◌∙◌, arith, take_all}
 use Rattle.std.specs.List.{flat_map}
 use mathlib.Core.List.{reverse_aux}
 use Rattle.list_laws.specs.Prefix.{IsPrefix}
 use Rattle.list_laws.proofs.PrefixLaws.{whole_IsPrefix}
-use Rattle.run_events.specs.declared.event.Event.{Event}
-use Rattle.run_events.specs.declared.record.EndCause.{EndCause}
 use Rattle.run_events.specs.declared.record.Record.{Record}
 use Rattle.run_events.specs.declared.record.Record.TheVariants.{End}
+use Rattle.run_events.proofs.RecordLaws.{reach_push}
 use Rattle.run_events.specs.Record.{reach_back, reach}
 use Rattle.machine_model.specs.State.{State}
 use Rattle.machine_model.specs.Run.{run_from, records_of, log}
@@ -49,12 +48,5 @@ module _ (start : State) (first : start.step ≡ 0) (limit : ℕ) where
   pub whole_shown : shown start (log (run_from limit start)) ≡ (run_from limit start).events
   whole_shown =
       let run = run_from limit start in
-      front_shown (log run) (whole_IsPrefix (log run)) ∙ ap (λ n. take n run.events) (reach_end (flat_map records_of run.events) [] run.steps run.cause ∙ numbered.steps ∙ (let e : 0 + length run.events ≡ length run.events = omega arith in e)) ∙ take-all run.events
-    where
-      reach_end : (items back : List Record) (n : ℕ) (cause : EndCause) → reach_back (reverse_aux (items ++ End n cause ∷ []) back) ≡ n
-      reach_end [] back n cause = refl
-      reach_end (item ∷ items) back n cause = reach_end items (item ∷ back) n cause
-
-      take-all : (xs : List Event) → take (length xs) xs ≡ xs
-      take-all [] = refl
-      take-all (x ∷ xs) = ap (λ l. x ∷ l) (take-all xs)
+      let whole : reach (log run) ≡ run.steps = reach_push (flat_map records_of run.events) (End run.steps run.cause) in
+      front_shown (log run) (whole_IsPrefix (log run)) ∙ take_all (reach (log run)) run.events (omega (arith, whole, numbered.steps))

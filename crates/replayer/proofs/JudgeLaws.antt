@@ -3,6 +3,7 @@ use Rattle.std.proofs.Common.{◌≡◌, ℕ, zero, suc, ◌+◌, ◌-◌, ◌<�
 use Rattle.std.specs.Prelude.{is_some}
 use Rattle.std.specs.Option.{option_map}
 use borrow.Author.Count.{below_more}
+use Rattle.std.proofs.lemmas.Bool.{and_parts, eqb-true}
 use Rattle.run_events.specs.declared.record.EndCause.TheVariants.{Power, Limit, Stuck}
 use Rattle.run_events.specs.declared.record.Record.{Record}
 use Rattle.run_events.specs.declared.record.Record.TheVariants.{Load, Lines, Dma, Reach, End}
@@ -10,9 +11,10 @@ use Rattle.run_events.specs.Record.{number}
 use Rattle.machine_model.specs.State.{State}
 use Rattle.machine_model.specs.Step.{step_from}
 use Rattle.machine_model.specs.Replay.{EndsElsewhere, power_at, last_power, is_after_power, is_stuck, is_elsewhere, has_status, agrees, ends_at, first_end, elsewhere, executed_to}
+use Rattle.machine_model.proofs.Determinism.{first_end-none}
 use Rattle.replayer.specs.Place.{end_place, place}
 use Rattle.replayer.specs.Replays.{IsAt}
-use Rattle.replayer.proofs.StepLaws.{is_stuck-is, built_below, quiet_more, first_end-none, first_end-at}
+use Rattle.replayer.proofs.StepLaws.{is_stuck-is, built_below, quiet_more, first_end-at}
 
 -- a record that the order admits is judged at this place, with this many steps executed
 pub record IsJudged (start : State) (before : List Record) (item : Record) (steps : ℕ) (o : Option ℕ) : Type 0 where
@@ -29,18 +31,9 @@ quiet_end : (k : ℕ) (start : State) (item : Record) → is_stuck k start ≡ f
 quiet_end k start item built quiet = no_end k start item built (ap (λ p. is_elsewhere k p item) quiet)
 
 -- the record that follows a power store
-pub and_true : (a b : Bool) → (a && b) ≡ true → (a ≡ true) × (b ≡ true)
-and_true true b is = (refl, is)
-and_true false b is =
-    let no : ⊥ = cc in
-    absurd no
-
-same : (a b : ℕ) → (a == b) ≡ true → a ≡ b
-same a b is = grind (arith, is)
-
 number_after : (item : Record) (n status : ℕ) → is_after_power n status item ≡ true → number item ≡ n
-number_after (Reach step) n status is = same step n is
-number_after (End step (Power told)) n status is = same step n (and_true (step == n) (told == status) is).0
+number_after (Reach step) n status is = eqb-true step n is
+number_after (End step (Power told)) n status is = eqb-true step n (and_parts (step == n) (told == status) is).0
 number_after (End step Limit) n status is = cc
 number_after (End step Stuck) n status is = cc
 number_after (Load step value mark) n status is = cc
@@ -50,8 +43,8 @@ number_after (Dma step address word mark) n status is = cc
 agrees_after : (start : State) (item : Record) (n status : ℕ) → last_power n start ≡ Some status → is_after_power n status item ≡ true → agrees start item ≡ true
 agrees_after start (Reach step) n status power is = refl
 agrees_after start (End step (Power told)) n status power is =
-    let both = and_true (step == n) (told == status) is in
-    ap (λ k. has_status told (last_power k start)) (same step n both.0) ∙ ap (has_status told) power ∙ both.1
+    let both = and_parts (step == n) (told == status) is in
+    ap (λ k. has_status told (last_power k start)) (eqb-true step n both.0) ∙ ap (has_status told) power ∙ both.1
 agrees_after start (End step Limit) n status power is = cc
 agrees_after start (End step Stuck) n status power is = cc
 agrees_after start (Load step value mark) n status power is = refl

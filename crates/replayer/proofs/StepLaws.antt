@@ -8,34 +8,11 @@ use Rattle.run_events.specs.declared.record.Record.{Record}
 use Rattle.machine_model.specs.State.{State}
 use Rattle.machine_model.specs.Step.{step_from}
 use Rattle.machine_model.specs.Run.{power_status}
-use Rattle.machine_model.specs.Replay.{next_of, shown_at, state_at, event_at, events_below, power_at, last_power, is_stuck, ends_at, first_end}
+use Rattle.machine_model.specs.Replay.{next_of, state_at, events_below, power_at, last_power, is_stuck, ends_at, first_end}
+use Rattle.machine_model.proofs.Determinism.{state_at-first, state_at-suc, here_event, stepped_event, stepped_state, stepped_power, first_end-none}
 use Rattle.machine_model.proofs.RunLaws.{step_from-IsStep}
+use Rattle.machine_model.proofs.ShownLaws.{events_below-suc}
 use Rattle.replayer.specs.Replays.{IsAt}
-
-pub state_at-first : (start : State) → state_at 0 start ≡ Some start
-unfolding state_at
-state_at-first start = refl
-
-state_at-suc : (k : ℕ) (start : State) → state_at (suc k) start ≡ option_and_then next_of (state_at k start)
-unfolding state_at
-state_at-suc k start = refl
-
-pub events_below-suc : (k : ℕ) (start : State) → events_below (suc k) start ≡ events_below k start ++ option_to_list (event_at k start)
-unfolding events_below
-events_below-suc k start = refl
-
--- a step that is built
-state_at-next : (k : ℕ) (start s next : State) (event : Event) → state_at k start ≡ Some s → step_from s ≡ Some (event, next) → state_at (suc k) start ≡ Some next
-state_at-next k start s next event at is = state_at-suc k start ∙ ap (option_and_then next_of) at ∙ ap (option_map (λ (step : Event × State). step.1)) is
-
-event_at-shown : (k : ℕ) (start s : State) → state_at k start ≡ Some s → event_at k start ≡ shown_at s
-event_at-shown k start s at = ap (option_and_then shown_at) at
-
-event_at-is : (k : ℕ) (start s next : State) (event : Event) → state_at k start ≡ Some s → step_from s ≡ Some (event, next) → event_at k start ≡ Some event
-event_at-is k start s next event at is = event_at-shown k start s at ∙ ap (option_map (λ (step : Event × State). step.0)) is
-
-power_at-is : (k : ℕ) (start s next : State) (event : Event) → state_at k start ≡ Some s → step_from s ≡ Some (event, next) → power_at k start ≡ power_status event
-power_at-is k start s next event at is = ap (option_and_then power_status) (event_at-is k start s next event at is)
 
 -- whether the run is stuck at a state
 stuck_by_step : (o : Option (Event × State)) → not (is_some (option_map (λ (step : Event × State). step.0) o)) ≡ not (is_some o)
@@ -43,7 +20,7 @@ stuck_by_step None = refl
 stuck_by_step (Some step) = refl
 
 pub is_stuck-is : (k : ℕ) (start s : State) → state_at k start ≡ Some s → is_stuck k start ≡ not (is_some (step_from s))
-is_stuck-is k start s at = ap (λ o. not (is_some o)) (event_at-shown k start s at) ∙ stuck_by_step (step_from s)
+is_stuck-is k start s at = ap (λ o. not (is_some o)) (here_event k start s at) ∙ stuck_by_step (step_from s)
 
 -- all steps before a state are built
 record IsBefore (m : ℕ) (start s : State) : Type 0 where
@@ -87,15 +64,15 @@ IsAt-next start s next event power was is status =
     let counted = (step_from-IsStep s event next is).counted in
     let n : next.step ≡ suc s.step = counted ∙ add-one s.step in
     record {
-      at = ap (λ k. state_at k start) n ∙ state_at-next s.step start s next event was.at is;
+      at = ap (λ k. state_at k start) n ∙ stepped_state start s next event s.step was.at is;
       quiet = λ k lt. quiet_more s.step start was.quiet (sym was.last) k (omega (arith, lt, counted));
-      last = status ∙ sym (power_at-is s.step start s next event was.at is) ∙ sym (ap (λ k. last_power k start) n);
+      last = status ∙ sym (stepped_power start s next event s.step was.at is) ∙ sym (ap (λ k. last_power k start) n);
     }
 
 -- one event more is shown
 pub events_below-next : (start s next : State) (event : Event) → IsAt start s None → step_from s ≡ Some (event, next) → events_below next.step start ≡ events_below s.step start ++ event ∷ []
 events_below-next start s next event was is =
-    ap (λ k. events_below k start) ((step_from-IsStep s event next is).counted ∙ add-one s.step) ∙ events_below-suc s.step start ∙ ap (λ o. events_below s.step start ++ option_to_list o) (event_at-is s.step start s next event was.at is)
+    ap (λ k. events_below k start) ((step_from-IsStep s event next is).counted ∙ add-one s.step) ∙ events_below-suc s.step start ∙ ap (λ o. events_below s.step start ++ option_to_list o) (stepped_event start s next event s.step was.at is)
 
 pub seen_next : (start s next : State) (event : Event) (h : List Event) (seen seen' : List Event → Type 0) → IsAt start s None → step_from s ≡ Some (event, next) → ((l : List Event) → seen l → seen' (l ++ event ∷ []))
     → seen (h ++ events_below s.step start) → seen' (h ++ events_below next.step start)
@@ -106,14 +83,6 @@ seen_next start s next event h seen seen' was is more so_far =
 first_end-suc : (n : ℕ) (start : State) (item : Record) → first_end (suc n) start item ≡ option_or (first_end n start item) (cond (ends_at n start item) (Some n) None)
 unfolding first_end
 first_end-suc n start item = refl
-
-pub first_end-none : (n : ℕ) (start : State) (item : Record) → ((k : ℕ) → k < n → ends_at k start item ≡ false) → first_end n start item ≡ None
-unfolding first_end
-first_end-none zero start item none = refl
-first_end-none (suc n) start item none =
-    first_end-suc n start item
-    ∙ ap (λ o. option_or o (cond (ends_at n start item) (Some n) None)) (first_end-none n start item (λ k lt. none k (omega (arith, lt))))
-    ∙ ap (λ b. cond b (Some n) None) (none n (omega arith))
 
 pub first_end-at : (n m : ℕ) (start : State) (item : Record) → ((k : ℕ) → k < m → ends_at k start item ≡ false) → ends_at m start item ≡ true → m < n → first_end n start item ≡ Some m
 first_end-at zero m start item none at lt = absurd (omega (arith, lt))

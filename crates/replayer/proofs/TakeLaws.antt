@@ -1,89 +1,53 @@
 -- How a replay stands for one record more.
-use Rattle.std.proofs.Common.{◌≡◌, ℕ, ◌<◌, ◌≤◌, Bool, true, false, not, cond, nat_lt, ◌&&◌, ◌||◌, ◌==◌, List, [], ◌∷◌, ◌++◌, Option, Some, None, refl, sym, ap, subst, ◌∙◌, arith}
+use Rattle.std.proofs.Common.{◌≡◌, ℕ, ◌<◌, ◌≤◌, Bool, true, false, not, cond, List, [], ◌∷◌, ◌++◌, Option, Some, None, refl, sym, ap, subst, ◌∙◌, arith}
 use Rattle.std.specs.Prelude.{is_some}
 use Rattle.std.specs.Option.{option_map}
+use Rattle.std.proofs.lemmas.Option.{none-some}
 use Rattle.run_events.specs.declared.event.Event.{Event}
 use Rattle.run_events.specs.declared.record.Record.{Record}
-use Rattle.run_events.specs.Record.{number, rank, is_end, is_dma, dmas_at, is_admitted, reach_back}
+use Rattle.run_events.proofs.RecordLaws.{admitted_rises}
+use Rattle.run_events.specs.Record.{number, is_admitted, reach_back}
 use Rattle.machine_model.specs.State.{State}
 use Rattle.machine_model.specs.Step.{step_from}
 use Rattle.machine_model.specs.Replay.{Fault, StepFalls, EndsElsewhere, events_below, fault_of, fault_behind, elsewhere, first_end, first_fault_back, executed_to, executed_behind, executed_back, shown_back}
+use Rattle.machine_model.proofs.Determinism.{no_fault_yet}
+use Rattle.machine_model.proofs.ShownLaws.{first_fault_back-cons, executed_back-cons, executed_none, executed_fits}
 use Rattle.replayer.specs.declared.diverged.Diverged.{Diverged}
 use Rattle.replayer.specs.declared.diverged.Why.TheVariants as why
 use Rattle.replayer.specs.declared.replay.Replay.{Replay}
 use Rattle.replayer.specs.Place.{place}
 use Rattle.replayer.specs.Replays.{IsAt, Replays, told}
 use Rattle.replayer.specs.Taking.{HasAdvanced}
-use Rattle.replayer.proofs.JudgeLaws.{and_true, judged}
+use Rattle.replayer.proofs.JudgeLaws.{judged}
 use Rattle.replayer.proofs.StepLaws.{IsAt-first}
-
-pub fault-none : (start : State) → first_fault_back start [] ≡ None
-unfolding first_fault_back
-fault-none start = refl
-
-pub fault-more : (start : State) (item : Record) (before : List Record) → first_fault_back start (item ∷ before) ≡ fault_behind start before item (first_fault_back start before)
-unfolding first_fault_back
-fault-more start item before = refl
-
-executed-none : (start : State) → executed_back start [] ≡ 0
-unfolding executed_back
-executed-none start = refl
-
-executed-more : (start : State) (item : Record) (before : List Record) → executed_back start (item ∷ before) ≡ executed_behind start before item (first_fault_back start before) (executed_back start before)
-unfolding executed_back
-executed-more start item before = refl
 
 -- a replay that was fed nothing
 pub fed_nothing : (start : State) (replay : Replay) → replay.cpu ≡ start → start.step ≡ 0 → replay.power ≡ None → replay.last ≡ None → replay.diverged ≡ None → Replays start [] replay
 fed_nothing start replay is zero_steps power last diverged = record {
   at = subst (IsAt start replay.cpu) (sym power) (IsAt-first start replay.cpu is zero_steps);
-  executed = ap (λ (s : State). s.step) is ∙ zero_steps ∙ sym (executed-none start);
-  fault = diverged ∙ ap (option_map told) (sym (fault-none start));
+  executed = ap (λ (s : State). s.step) is ∙ zero_steps ∙ sym (executed_none start);
+  fault = diverged ∙ ap (option_map told) (sym (no_fault_yet start));
   last = λ none. last;
 }
 
--- a list that fits has executed its reach
-pub not_told : (o : Option Fault) → option_map told o ≡ None → o ≡ None
+-- where no fault is told, there is none
+not_told : (o : Option Fault) → option_map told o ≡ None → o ≡ None
 not_told None is = refl
 not_told (Some fault) is = cc
 
 pub fits_so_far : (start : State) (before : List Record) (replay : Replay) → Replays start before replay → replay.diverged ≡ None → first_fault_back start before ≡ None
 fits_so_far start before replay was none = not_told (first_fault_back start before) (sym was.fault ∙ none)
 
-pub fault_of-behind : (start : State) (before : List Record) (item : Record) (o : Option Fault) → fault_behind start before item o ≡ None → (o ≡ None) × (fault_of start before item ≡ None)
-fault_of-behind start before item None is = (refl, is)
-fault_of-behind start before item (Some fault) is =
-    let no : ⊥ = cc in
-    absurd no
-
-pub reach_is : (start : State) (before : List Record) → first_fault_back start before ≡ None → executed_back start before ≡ reach_back before
-reach_is start [] fits = executed-none start
-reach_is start (last ∷ before) fits =
-    let parts = fault_of-behind start before last (first_fault_back start before) (sym (fault-more start last before) ∙ fits) in
-    executed-more start last before ∙ ap (λ o. executed_behind start before last o (executed_back start before)) parts.0 ∙ ap (executed_to start before last) parts.1
-
 pub step_is : (start : State) (before : List Record) (replay : Replay) → Replays start before replay → replay.diverged ≡ None → replay.cpu.step ≡ reach_back before
-step_is start before replay was none = was.executed ∙ reach_is start before (fits_so_far start before replay was none)
+step_is start before replay was none = was.executed ∙ executed_fits start before (fits_so_far start before replay was none)
 
 -- the number of a record that the order admits does not fall
-by_test : (a b : ℕ) (c t : Bool) → nat_lt a b ≡ t → (t || ((a == b) && c)) ≡ true → a ≤ b
-by_test a b c true test is = grind (arith, test)
-by_test a b c false test is =
-    let eq = (and_true (a == b) c is).0 in
-    grind (arith, eq)
-
-pub admitted_long : (before : List Record) (item : Record) → is_admitted before item ≡ true → reach_back before ≤ number item
-admitted_long [] item is = omega arith
-admitted_long (last ∷ before) item is =
-    by_test (number last) (number item) (nat_lt (rank last) (rank item) || (is_dma last && (is_dma item && nat_lt (dmas_at (number item) (last ∷ before)) 128))) (nat_lt (number last) (number item)) refl
-    (and_true (not (is_end last)) (nat_lt (number last) (number item) || ((number last == number item) && (nat_lt (rank last) (rank item) || (is_dma last && (is_dma item && nat_lt (dmas_at (number item) (last ∷ before)) 128))))) is).1
-
 pub not_past : (start : State) (before : List Record) (item : Record) (replay : Replay) → Replays start before replay → replay.diverged ≡ None → is_admitted before item ≡ true → replay.cpu.step ≤ number item
-not_past start before item replay was none admitted = omega (arith, step_is start before replay was none, admitted_long before item admitted)
+not_past start before item replay was none admitted = omega (arith, step_is start before replay was none, admitted_rises before item admitted)
 
 -- a record that the order does not admit
 executed_then : (start : State) (before : List Record) (item : Record) → first_fault_back start before ≡ None → executed_back start (item ∷ before) ≡ executed_to start before item (fault_of start before item)
-executed_then start before item fits = executed-more start item before ∙ ap (λ o. executed_behind start before item o (executed_back start before)) fits
+executed_then start before item fits = executed_back-cons start before item ∙ ap (λ o. executed_behind start before item o (executed_back start before)) fits
 
 pub advanced_falls : (start : State) (before : List Record) (item : Record) (replay : Replay) → Replays start before replay → replay.diverged ≡ None → is_admitted before item ≡ false
     → HasAdvanced start before item replay.cpu replay.power (Some (record { step = number item; why = why.StepFalls }))
@@ -138,17 +102,14 @@ executed-still start before item n (Some fault) is = refl
 
 pub still_executed : (start : State) (before : List Record) (item : Record) (replay : Replay) (d : Diverged) → Replays start before replay → replay.diverged ≡ Some d → replay.cpu.step ≡ executed_back start (item ∷ before)
 still_executed start before item replay d was is =
-    was.executed ∙ sym (executed-still start before item (executed_back start before) (first_fault_back start before) (told_some (first_fault_back start before) d (sym is ∙ was.fault))) ∙ sym (executed-more start item before)
-
-pub some_none : (d : Diverged) → Some d ≡ None → ⊥
-some_none d is = cc
+    was.executed ∙ sym (executed-still start before item (executed_back start before) (first_fault_back start before) (told_some (first_fault_back start before) d (sym is ∙ was.fault))) ∙ sym (executed_back-cons start before item)
 
 pub still_replays : (start : State) (before : List Record) (item : Record) (replay : Replay) (d : Diverged) → Replays start before replay → replay.diverged ≡ Some d → Replays start (item ∷ before) replay
 still_replays start before item replay d was is = record {
   at = was.at;
   executed = still_executed start before item replay d was is;
-  fault = was.fault ∙ ap (option_map told) (sym (fault-more start item before ∙ fault-still start before item (first_fault_back start before) (told_some (first_fault_back start before) d (sym is ∙ was.fault))));
-  last = λ none. absurd (some_none d (sym is ∙ none));
+  fault = was.fault ∙ ap (option_map told) (sym (first_fault_back-cons start before item ∙ fault-still start before item (first_fault_back start before) (told_some (first_fault_back start before) d (sym is ∙ was.fault))));
+  last = λ none. absurd (none-some d (sym none ∙ is));
 }
 
 -- one record more
@@ -157,6 +118,6 @@ pub replays_more : (start : State) (before : List Record) (item : Record) (repla
 replays_more start before item replay fault fits advanced is last = record {
   at = advanced.at;
   executed = advanced.executed;
-  fault = is ∙ advanced.known ∙ ap (option_map told) (sym (fault-more start item before ∙ ap (fault_behind start before item) fits));
+  fault = is ∙ advanced.known ∙ ap (option_map told) (sym (first_fault_back-cons start before item ∙ ap (fault_behind start before item) fits));
   last = last;
 }

@@ -1,7 +1,8 @@
 -- Each row of the listing reads what its words spell.
 use Rattle.std.proofs.Common.{◌≡◌, ℕ, ◌+◌, ◌*◌, ◌/◌, ◌^◌, ◌<◌, ◌≤ℤ◌, ◌<ℤ◌, true, List, [], ◌∷◌, ◌++◌, pos, refl, subst, arith}
-use Rattle.std.specs.Prelude.{Option, None, Some, IfSome}
+use Rattle.std.specs.Prelude.{Some, IfSome}
 use Rattle.std.proofs.lemmas.Int.{ints}
+use Rattle.std.proofs.lemmas.Option.{IfSome_then}
 use Rattle.rv_decode.specs.declared.instruction.Instr.{Instr}
 use Rattle.rv_decode.specs.declared.instruction.Instr.TheVariants.{Ecall, Ebreak, Mret, Wfi}
 use Rattle.rv_decode.specs.declared.operations.BranchOp.{BranchOp}
@@ -153,16 +154,8 @@ spelled-valid word i fits e = (subst (λ o. IfSome o (Reading word)) e (instruct
 pub spelled-back : (word : ℕ) (i : Instr) → word < 2 ^ 32 → instruction word ≡ Some i → encoded i ≡ word
 spelled-back word i fits e = (subst (λ o. IfSome o (Reading word)) e (instruction-reads word fits)).back
 
-each_valid : (word : ℕ) (o : Option Instr) → IfSome o (Reading word) → IfSome o IsValid
-each_valid word None r = tt
-each_valid word (Some i) r = r.valid
-
-each_back : (word : ℕ) (o : Option Instr) → IfSome o (Reading word) → IfSome o (λ i. encoded i ≡ word)
-each_back word None r = tt
-each_back word (Some i) r = r.back
-
 pub valid_reading : (word : ℕ) → word < 2 ^ 32 → IfSome (instruction word) IsValid
-valid_reading word fits = each_valid word (instruction word) (instruction-reads word fits)
+valid_reading word fits = IfSome_then (instruction word) (instruction-reads word fits) (λ i r. r.valid)
 
 pub back_reading : (word : ℕ) → word < 2 ^ 32 → IfSome (instruction word) (λ i. encoded i ≡ word)
-back_reading word fits = each_back word (instruction word) (instruction-reads word fits)
+back_reading word fits = IfSome_then (instruction word) (instruction-reads word fits) (λ i r. r.back)

@@ -1,10 +1,10 @@
 -- What loads and stores make of a list of bytes.
-use Rattle.std.proofs.Common.{◌≡◌, ◌⊎◌, ℕ, ◌+◌, ◌-◌, ◌^◌, ◌<◌, ◌≤◌, List, length, take, drop, get_or, [], ◌∷◌, ◌/◌, ◌%◌, inl, inr, arith, length-append, length-drop, length-take}
+use Rattle.std.proofs.Common.{◌≡◌, ◌⊎◌, ℕ, ◌+◌, ◌-◌, ◌^◌, ◌<◌, ◌≤◌, List, length, take, drop, get_or, ◌%◌, inl, inr, arith, length-append, length-drop, length-take}
 use Rattle.std.proofs.lemmas.List.{get_or_past, get_or_append_left, get_or-take, get_or-drop}
 use Rattle.std.proofs.Math.Seq.{get_or-append_right}
 use Rattle.std.proofs.Math.Nat.{mod-lt}
-use native.Mathlib.Decide.{dec_lt}
-use Rattle.std.proofs.lemmas.List.Elements.{All-cons, All-nil, All-append, All-take, All-drop, All-get_or}
+use Rattle.std.proofs.lemmas.Bool.{cases_lt}
+use Rattle.std.proofs.lemmas.List.Elements.{All-append, All-take, All-drop, All-get_or, All-from_recursion}
 use Rattle.std.specs.List.{All}
 use Rattle.std.specs.Int.{w32, to_le_bytes}
 use Rattle.memory_map.specs.declared.TheConstants.{RAM_START}
@@ -56,18 +56,13 @@ stored-outside ram address width value i d w held (inr after) =
 -- a byte of a list of bytes, and what is read past its end, is below 256
 pub byte_below : (bytes : List ℕ) (i : ℕ) → All (λ b. b < 256) bytes → get_or bytes i 0 < 256
 byte_below bytes i old =
-    elim (dec_lt i (length bytes)) [ yes within ↦ All-get_or (λ b. b < 256) bytes i 0 within old | no past ↦ let e = get_or_past bytes i 0 (omega (arith, past)) in omega (arith, e) ]
-
-four_below : (a b c d : ℕ) → a < 256 → b < 256 → c < 256 → d < 256 → All (λ x. x < 256) (a ∷ b ∷ c ∷ d ∷ [])
-four_below a b c d p q r s =
-    let P : ℕ → Type 0 = λ x. x < 256 in
-    All-cons P a (b ∷ c ∷ d ∷ []) p (All-cons P b (c ∷ d ∷ []) q (All-cons P c (d ∷ []) r (All-cons P d [] s (All-nil P))))
+    elim (cases_lt i (length bytes)) [ inl within ↦ All-get_or (λ b. b < 256) bytes i 0 within old | inr past ↦ omega (arith, get_or_past bytes i 0 past) ]
 
 -- the bytes of a value are below 256
 pub low_bytes : (value : ℕ) → All (λ b. b < 256) (to_le_bytes w32 value)
 low_bytes value =
     let low : (n : ℕ) → n % 256 < 256 = λ n. mod-lt n (omega arith) in
-    four_below (value % 256) (value / 256 % 256) (value / 256 ^ 2 % 256) (value / 256 ^ 3 % 256) (low _) (low _) (low _) (low _)
+    All-from_recursion (λ b. b < 256) (to_le_bytes w32 value) (low _, (low _, (low _, (low _, tt))))
 
 -- after a store each byte is below 256 as before
 pub stored_bytes : (ram : List ℕ) (address width value : ℕ) → All (λ b. b < 256) ram → All (λ b. b < 256) (stored ram address width value)

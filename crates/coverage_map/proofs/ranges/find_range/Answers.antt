@@ -1,8 +1,10 @@
-use Rattle.std.proofs.Common.{◌≡◌, ◌∷◌, ◌∙◌, drop, ap, arith, rules, add-one}
+use Rattle.std.proofs.Common.{◌≡◌, ◌∷◌, ◌∙◌, drop, ap, arith, rules, sym}
+use Rattle.std.proofs.lemmas.List.{drop-drop}
+use Rattle.list_laws.proofs.PlaceLaws.{dropped-at}
 use Rattle.analysis_model.specs.Cover.{Span, runs}
 use Rattle.coverage_map.specs.Coverage.{marked}
 use Rattle.coverage_map.specs.Places.{marked_behind}
-use Rattle.coverage_map.proofs.PlaceLaws.{range_is_there, slice_get-front, drop-front}
+use Rattle.coverage_map.proofs.PlaceLaws.{range_is_there}
 use Rattle.coverage_map.proofs.ranges.find_range.Goals as goal
 
 pub range_end-requires : goal.range_end-requires
@@ -12,7 +14,7 @@ pub loop-passed-preserved : goal.loop-passed-preserved
 loop-passed-preserved c = record {
   to = search rules;
   found = search rules;
-  rest = rw add-one (drop-front _ c.loop-passed.passed _ _ (c.loop-passed.invariant.rest ∙ c.range_end.ensures.range) ∙ ap runs c.next_marked-place-in-loop-passed.ensures.same);
+  rest = sym (drop-drop 1 c.loop-passed.passed (runs (marked c.args.marks.now))) ∙ ap (drop 1) (c.loop-passed.invariant.rest ∙ c.range_end.ensures.range) ∙ ap runs c.next_marked-place-in-loop-passed.ensures.same;
 }
 
 pub range_end-requires-2 : goal.range_end-requires-2
@@ -25,4 +27,4 @@ returns c =
     let span : Span = record { from = c.address_of.result; to = c.address_of-2.result } in
     let done : c.loop-passed.passed ≡ c.args.index = omega arith in
     let front : drop c.args.index all ≡ span ∷ behind = rw (← done, c.address_of.ensures, c.address_of-2.ensures) (c.loop-passed.invariant.rest ∙ c.range_end-2.ensures.range) in
-    slice_get-front all c.args.index span behind front
+    dropped-at c.args.index all span behind front

@@ -16,10 +16,7 @@ round-requires g c =
 -- the replica has read to the close
 closed_by : {A : Type 0} (core : CoreState) (last : Turn) → last ≡ Closed → ((last ≡ Closed) × (core.closed ≡ true)) ⊎ ((last ≡ Took) × A) → core.closed ≡ true
 closed_by core last is (inl ended) = ended.1
-closed_by core last is (inr goes) = let both : ◌≡◌ {A = Turn} Closed Took = sym is ∙ goes.0 in absurd (no_turn both)
-  where
-    no_turn : ◌≡◌ {A = Turn} Closed Took → ⊥
-    no_turn e = cc
+closed_by core last is (inr goes) = let both : ◌≡◌ {A = Turn} Closed Took = sym is ∙ goes.0 in absurd (cc)
 
 pub returns-in-Ok-Closed-clause-ok : goal.returns-in-Ok-Closed-clause-ok
 returns-in-Ok-Closed-clause-ok g c = λ of opened.

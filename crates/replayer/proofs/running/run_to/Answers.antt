@@ -1,24 +1,20 @@
-use Rattle.std.proofs.Common.{◌≡◌, Bool, false, Option, Some, None, refl, ◌∙◌, subst, arith}
-use Rattle.std.specs.Prelude.{is_some}
+use Rattle.std.proofs.Common.{Some, None, sym, ◌∙◌, subst, arith}
+use Rattle.list_laws.proofs.OptionLaws.{none_from_is_some}
 use Rattle.machine_model.proofs.RunLaws.{step_from-IsStep}
 use Rattle.replayer.specs.Replays.{IsAt}
 use Rattle.replayer.proofs.StepLaws.{IsAt-next, seen_next}
 use Rattle.replayer.proofs.running.run_to.Goals as goal
 
-none_left : {X : Type 0} (o : Option X) (r : Bool) → r ≡ is_some o → r ≡ false → o ≡ None
-none_left None r is false_is = refl
-none_left (Some x) r is false_is = cc
-
 pub returns-in-Some-clause-at : goal.returns-in-Some-clause-at
 returns-in-Some-clause-at g c =
     λ start was.
-    let before = subst (IsAt start c.args.cpu.now) (none_left c.args.power c.is_some.result c.is_some.ensures c.if-is_some.false) was in
+    let before = subst (IsAt start c.args.cpu.now) (none_from_is_some c.args.power (sym c.is_some.ensures ∙ c.if-is_some.false)) was in
     IsAt-next start c.turns.cpu c.step-event.new.self c.step-event.result (Some c.in-Some.status) (c.turns.invariant.at start before) c.step-event.ensures.step c.in-Some.ensures
 
 pub returns-in-Some-clause-shown : goal.returns-in-Some-clause-shown
 returns-in-Some-clause-shown g c =
     λ start h was seen.
-    let before = subst (IsAt start c.args.cpu.now) (none_left c.args.power c.is_some.result c.is_some.ensures c.if-is_some.false) was in
+    let before = subst (IsAt start c.args.cpu.now) (none_from_is_some c.args.power (sym c.is_some.ensures ∙ c.if-is_some.false)) was in
     seen_next start c.turns.cpu c.step-event.new.self c.step-event.result h (g.W.Watcher.has_seen c.turns.seen) (g.W.Watcher.has_seen c.see.new.self) (c.turns.invariant.at start before) c.step-event.ensures.step c.see.ensures.seen
     (c.turns.invariant.shown start h before seen)
 

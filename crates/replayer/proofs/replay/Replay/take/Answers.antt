@@ -1,5 +1,6 @@
 use Rattle.std.proofs.Common.{refl, sym, ◌∙◌}
-use Rattle.replayer.proofs.TakeLaws.{fits_so_far, shown_then, still_executed, still_replays, replays_more, some_none}
+use Rattle.std.proofs.lemmas.Option.{none-some}
+use Rattle.replayer.proofs.TakeLaws.{fits_so_far, shown_then, still_executed, still_replays, replays_more}
 use Rattle.replayer.proofs.replay.Replay.take.Goals as goal
 
 pub returns-in-Some-clause-replays : goal.returns-in-Some-clause-replays
@@ -14,7 +15,7 @@ returns-in-Some-clause-shown g c =
 pub returns-in-Some-advance-clause-replays : goal.returns-in-Some-advance-clause-replays
 returns-in-Some-advance-clause-replays g c =
     λ start before was.
-    replays_more start before c.args.item.now _ c.advance.result (fits_so_far start before c.args.self.now was c.in_default.is) (c.advance.ensures.advanced start before was c.in_default.is) (sym c.in-Some-advance.is) (λ none. absurd (some_none c.in-Some-advance.diverged none))
+    replays_more start before c.args.item.now _ c.advance.result (fits_so_far start before c.args.self.now was c.in_default.is) (c.advance.ensures.advanced start before was c.in_default.is) (sym c.in-Some-advance.is) (λ none. absurd (none-some c.in-Some-advance.diverged (sym none)))
 
 pub returns-in-Some-advance-clause-shown : goal.returns-in-Some-advance-clause-shown
 returns-in-Some-advance-clause-shown g c = λ start before h was seen. c.advance.ensures.shown start before h was c.in_default.is seen
