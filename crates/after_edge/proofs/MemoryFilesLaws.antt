@@ -9,7 +9,7 @@ use Rattle.std.proofs.lemmas.List.{take_all}
 use Rattle.std.proofs.lemmas.List.Folds.{find_at}
 use Rattle.std.proofs.lemmas.Option.{slice_get_cases}
 use Rattle.std.proofs.lemmas.Bool.{cond_below, not-true, ltb-false}
-use Rattle.list_laws.proofs.OptionLaws.{none_left}
+use Rattle.list_laws.proofs.OptionLaws.{none_from_is_some}
 use Rattle.list_laws.proofs.PrefixLaws.{take_IsPrefix}
 use Rattle.after_edge.specs.Files.{Contents, ChangesTold, Changes, IsBegun, MayBeBegun, IsAppended, MayBeAppended}
 use Rattle.after_edge.specs.MemoryFiles.{Kept, is_named, entry_of, file_of, changed, changed_or_added, begun, bytes_of, appended, passes_room, has_no_place, HasRoom}
@@ -160,7 +160,7 @@ module _ (text : List ℕ) (before entries after : List Kept) (same : entries �
 
   pub begin-err : after ≡ changed begun text entries → is_some (entry_of entries text) ≡ false → Changes (Some (file_of before)) (Some (file_of after)) text MayBeBegun
   begin-err is none =
-      let unchanged = changed-missing begun text entries (none_left (entry_of entries text) none) in
+      let unchanged = changed-missing begun text entries (none_from_is_some (entry_of entries text) none) in
       let P : List Kept → Type 0 = λ es. Changes (Some (file_of before)) (Some (file_of es)) text MayBeBegun in
       subst P (sym (is ∙ unchanged ∙ same)) (Changes-none (Some (file_of before)) text MayBeBegun (λ was. inl refl))
 

@@ -1,8 +1,9 @@
 -- Reading a file piece by piece: the bytes so far are a front of what the name has.
 use Rattle.std.proofs.Common.{◌≡◌, ℕ, ◌+◌, ◌-◌, ◌<◌, ◌≤◌, List, [], ◌++◌, length, take, drop, Option, Some, unwrap_or, sym, ◌∙◌, ap, subst, inl, inr, append_assoc, append-nil, length-append, arith}
 use Rattle.std.proofs.lemmas.List.{nil_from_length, take-append-drop}
-use Rattle.std.proofs.Math.Seq.{drop-append_seam}
+use Rattle.std.proofs.lemmas.List.Prefix.{front_rest}
 use Rattle.list_laws.specs.Prefix.{IsPrefix}
+use Rattle.list_laws.proofs.PrefixLaws.{IsPrefix-length}
 use Rattle.after_edge.specs.Files.{Contents, IfTold, Reads, HasAbsentCause}
 use Rattle.after_edge.specs.Reading.{IsLonger}
 use Rattle.after_edge.proofs.FaultLaws.{Rose-before}
@@ -39,7 +40,7 @@ Reads-end files name bytes piece begins read =
 Reads-next : (files : Contents) (name bytes piece : List ℕ) (count : ℕ) → BeginsFile files name bytes → Reads files name (length bytes) count piece → BeginsFile files name (bytes ++ piece)
 Reads-next files name bytes piece count begins read =
     let p = front_of_file files name bytes read.bytes read.file begins in
-    let left : drop (length bytes) read.bytes ≡ p.rest = ap (λ l. drop (length bytes) l) (sym p.joined) ∙ drop-append_seam bytes p.rest in
+    let left : drop (length bytes) read.bytes ≡ p.rest = front_rest read.bytes bytes p.rest (sym p.joined) in
     let cut : piece ++ drop count p.rest ≡ p.rest = ap (λ l. l ++ drop count p.rest) (read.piece_is ∙ ap (λ l. take count l) left) ∙ take-append-drop count p.rest in
     let front : IsPrefix (bytes ++ piece) read.bytes = record { rest = drop count p.rest; joined = append_assoc bytes piece (drop count p.rest) ∙ ap (λ l. bytes ++ l) cut ∙ p.joined } in
     let P : Option (List ℕ) → Type 0 = λ o. IsPrefix (bytes ++ piece) (unwrap_or o []) in
@@ -58,8 +59,7 @@ absent_from_start content name bytes max before middle now read cause = elim cau
       let begins = (read.begins absent.0.files absent.0.told).front in
       let P : Option (List ℕ) → Type 0 = λ o. IsPrefix bytes (unwrap_or o []) in
       let p : IsPrefix bytes [] = subst P absent.0.none begins in
-      let sum : length bytes + length p.rest ≡ 0 = sym (length-append bytes p.rest) ∙ ap length p.joined in
-      let none : length bytes ≡ 0 = omega arith in
+      let none : length bytes ≡ 0 = omega (arith, IsPrefix-length bytes [] p) in
       inl (absent.0, absent.1 ∙ read.untouched none)
   | inr untold ↦ inr (untold.0, Rose-before before middle now read.later untold.1)
 ]

@@ -1,6 +1,6 @@
 -- Ranges of code, and the spans that their numbers give.
-use Rattle.std.proofs.Common.{◌≡◌, ℕ, suc, ◌+◌, ◌<◌, length, drop, get_or, true, false, Bool, ◌||◌, List, [], ◌∷◌, ◌++◌, refl, sym, ap, ◌∙◌, append_assoc, add-one}
-use Rattle.std.proofs.Math.Seq.{drop-cons}
+use Rattle.std.proofs.Common.{◌≡◌, ℕ, suc, ◌+◌, ◌<◌, length, drop, get_or, true, false, Bool, ◌||◌, List, [], ◌∷◌, ◌++◌, refl, sym, ap, ◌∙◌, append_assoc}
+use Rattle.std.proofs.lemmas.List.{drop_more}
 use Rattle.machine_model.specs.Image.{Segment}
 use Rattle.analysis_model.specs.Cover.{is_within}
 use Rattle.analysis_model.specs.Made.{code_numbers, spans_made_of}
@@ -21,7 +21,7 @@ area_numbers-last (first ∷ code) area = ap (λ l. first.address ∷ first.size
 -- the numbers of the ranges so far, and of the segments still to come
 pub code_goes_on : (code : List Area) (segments : List Segment) (index : ℕ) (segment other : Segment) → index < length segments → segment ≡ get_or segments index other → area_numbers code ++ code_numbers (drop index segments) ≡ code_numbers segments → area_numbers code ++ code_numbers (segment ∷ drop (index + 1) segments) ≡ code_numbers segments
 code_goes_on code segments index segment other h is so_far =
-    let front : segment ∷ drop (index + 1) segments ≡ drop index segments = rw (is, add-one) (sym (drop-cons segments index other h)) in
+    let front : segment ∷ drop (index + 1) segments ≡ drop index segments = rw is (sym (drop_more segments index other h)) in
     ap (λ rest. area_numbers code ++ code_numbers rest) front ∙ so_far
 
 pub code_takes : (code : List Area) (rest : List Segment) (segment : Segment) → segment.executable ≡ true → area_numbers (code ++ record { address = segment.address; size = segment.size } ∷ []) ++ code_numbers rest ≡ area_numbers code ++ code_numbers (segment ∷ rest)

@@ -1,7 +1,6 @@
 -- The marked words from a place on, as the place moves.
-use Rattle.std.proofs.Common.{◌≡◌, ℕ, ◌+◌, ◌<◌, ◌≤◌, Bool, true, false, cond, List, [], ◌∷◌, length, drop, get_or, slice_get, Some, refl, ap, ◌∙◌, arith, add-one}
-use Rattle.std.proofs.Math.Seq.{drop-cons}
-use Rattle.std.proofs.lemmas.List.{drop_all, length-drop}
+use Rattle.std.proofs.Common.{◌≡◌, ℕ, ◌+◌, ◌<◌, ◌≤◌, Bool, true, false, cond, List, [], ◌∷◌, length, drop, get_or, slice_get, Some, refl, ap, ◌∙◌, arith}
+use Rattle.std.proofs.lemmas.List.{drop_all, length-drop, drop_more}
 use Rattle.std.proofs.lemmas.Option.{get_or_from_slice_get, slice_get_within}
 use Rattle.analysis_model.specs.Cover.{Span, runs}
 use Rattle.coverage_map.specs.Coverage.{marked_from}
@@ -14,7 +13,7 @@ next_address place = omega arith
 -- the mark at the place decides
 behind_one : (marks : List Bool) (place : ℕ) (mark : Bool) → place < length marks → get_or marks place false ≡ mark → marked_behind marks place ≡ cond mark (place_address place ∷ marked_behind marks (place + 1)) (marked_behind marks (place + 1))
 behind_one marks place mark h is =
-    let front : drop place marks ≡ mark ∷ drop (place + 1) marks = rw (add-one, ← is) (drop-cons marks place false h) in
+    let front : drop place marks ≡ mark ∷ drop (place + 1) marks = drop_more marks place false h ∙ ap (λ m. m ∷ drop (place + 1) marks) is in
     rw (front, next_address place) refl
 
 pub behind-marked : (marks : List Bool) (place : ℕ) → place < length marks → get_or marks place false ≡ true → marked_behind marks place ≡ place_address place ∷ marked_behind marks (place + 1)

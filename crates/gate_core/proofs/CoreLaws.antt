@@ -5,16 +5,13 @@ use Rattle.std.proofs.lemmas.List.{length-drop, length-reverse, length-replicate
 use Rattle.std.proofs.lemmas.Bool.{cases_lt, cases_eq, and_parts}
 use Rattle.run_events.specs.declared.record.Record.{Record}
 use Rattle.run_events.proofs.RecordLaws.{admitted_rises}
-use Rattle.run_events.specs.Record.{number, is_admitted, is_ordered_back, is_ordered, reach_back, reach}
+use Rattle.run_events.specs.Record.{is_admitted, is_ordered_back, is_ordered, reach_back, reach}
 use Rattle.gate_core.specs.Core.{Plan, CoreState, CoreEvent, Append, Close, TakeNext, Post, Release, Break, reached, IsPlan, opening, IsShown, IsReleasable, MayAppend, May, approves, after_event, Leads, IsSoundAt, IsSound, StaysSound}
-
-falls_at_once : (item : Record) (before : List Record) (j : ℕ) → j ≤ 0 → number item ≤ reach_back (drop j (item ∷ before))
-falls_at_once item before zero low = omega arith
-falls_at_once item before (suc j) low = absurd (omega arith)
 
 reach_falls : (items : List Record) → is_ordered_back items ≡ true → (j k : ℕ) → j ≤ k → reach_back (drop k items) ≤ reach_back (drop j items)
 reach_falls [] h j k low = omega (arith, ap reach_back (drop-nil j), ap reach_back (drop-nil k))
-reach_falls (item ∷ before) h j zero low = falls_at_once item before j low
+reach_falls (item ∷ before) h zero zero low = omega arith
+reach_falls (item ∷ before) h (suc j) zero low = absurd (omega (arith, low))
 reach_falls (item ∷ before) h zero (suc k) low =
     let parts = and_parts (is_admitted before item) (is_ordered_back before) h in
     omega (arith, admitted_rises before item parts.0, reach_falls before parts.1 zero k (omega arith))

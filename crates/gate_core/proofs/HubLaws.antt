@@ -1,11 +1,11 @@
 -- What an append keeps.
-use Rattle.std.proofs.Common.{◌≡◌, ℕ, ◌+◌, ◌-◌, ◌<◌, ◌≤◌, Bool, IsTrue, true, false, cond, nat_eq, nat_lt, List, [], ◌∷◌, ◌++◌, length, min, slice_index, None, Some, option_map, arith, refl, subst, slice_get}
+use Rattle.std.proofs.Common.{◌≡◌, ℕ, ◌+◌, ◌-◌, ◌<◌, ◌≤◌, Bool, IsTrue, true, false, cond, nat_eq, nat_lt, List, [], ◌∷◌, ◌++◌, length, min, slice_index, None, Some, option_map, arith, refl, slice_get}
 use Rattle.std.proofs.lemmas.List.{length-drop, length_push}
 use Rattle.std.proofs.lemmas.List.Sums.{fails_before_first}
 use Rattle.std.proofs.lemmas.List.Elements.{All-drop, All-push}
-use Rattle.std.proofs.lemmas.Option.{get_or_from_slice_get, slice_get_within}
 use Rattle.std.specs.List.{All, position_or_len}
 use Rattle.circular_buffer.specs.Buffer.{keep_last}
+use Rattle.list_laws.proofs.PlaceLaws.{all-at}
 use Rattle.run_events.specs.declared.record.Record.{Record}
 use Rattle.run_events.specs.Record.{IsRecord}
 use Rattle.gate_core.specs.declared.verdict.Verdict.{Verdict}
@@ -41,7 +41,7 @@ stored_more n total items item was =
 
 -- a record that is found among such is such a one
 pub stored_record : (items : List Record) (place : ℕ) (item : Record) → All IsRecord items → slice_get items place ≡ Some item → IsRecord item
-stored_record items place item all here = subst IsRecord (get_or_from_slice_get items place item item here) (all place item (slice_get_within items place item here))
+stored_record items place item all here = all-at IsRecord place items item all here
 
 pub cap_bound : (n : ℕ) → IsTrue (is_cap n) → n ≤ 65536
 cap_bound n h = grind arith

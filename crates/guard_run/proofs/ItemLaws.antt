@@ -4,9 +4,9 @@ use Rattle.std.specs.Prelude.{◌||◌, ◌==◌, ◌%◌, is_some, slice_get, I
 use Rattle.std.specs.List.{AllByRecursion, flat_map, cons_option, All}
 use Rattle.std.proofs.lemmas.List.{length-map, take_all, length-drop, drop-drop}
 use Rattle.std.proofs.lemmas.List.Elements.{filter_map-append, All-from_recursion, All-map, All-weaker}
-use Rattle.std.proofs.lemmas.Option.{get_or_from_slice_get, slice_get_within, slice_get-map}
+use Rattle.std.proofs.lemmas.Option.{slice_get_within, slice_get-map}
 use Rattle.list_laws.specs.Prefix.{IsPrefix}
-use Rattle.list_laws.proofs.PlaceLaws.{dropped-at}
+use Rattle.list_laws.proofs.PlaceLaws.{all-at, dropped-at}
 use Rattle.list_laws.proofs.PrefixLaws.{take-next}
 use Rattle.run_events.specs.declared.event.Event.{Event}
 use Rattle.run_events.specs.declared.record.Record.{Record}
@@ -69,10 +69,6 @@ items_behind_are (event ∷ events) rest all =
 
 items_are : (run : Finished) → All IsItem (items run)
 items_are run = All-from_recursion IsItem (items run) (items_behind_are run.events (record { item = End run.steps run.cause; byte = None } ∷ []) ((refl, tt), tt))
-
--- what holds of all holds of what stands at a place
-all-at : {X : Type 0} (P : X → Type 0) (k : ℕ) (xs : List X) (x : X) → All P xs → slice_get xs k ≡ Some x → P x
-all-at P k xs x all is = subst P (get_or_from_slice_get xs k x x is) (all k x (slice_get_within xs k x is))
 
 -- the next item of a run of which so many were appended
 pub record IsNext (c : Course) (a : ℕ) (i : Item) (rest : List Item) : Type 0 where

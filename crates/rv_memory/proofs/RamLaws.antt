@@ -3,7 +3,7 @@ use Rattle.std.proofs.Common.{◌≡◌, ◌⊎◌, ℕ, ◌+◌, ◌-◌, ◌^�
 use Rattle.std.proofs.lemmas.List.{get_or_past, get_or_append_left, get_or-take, get_or-drop}
 use Rattle.std.proofs.Math.Seq.{get_or-append_right}
 use Rattle.std.proofs.Math.Nat.{mod-lt}
-use native.Mathlib.Decide.{dec_lt}
+use Rattle.std.proofs.lemmas.Bool.{cases_lt}
 use Rattle.std.proofs.lemmas.List.Elements.{All-append, All-take, All-drop, All-get_or, All-from_recursion}
 use Rattle.std.specs.List.{All}
 use Rattle.std.specs.Int.{w32, to_le_bytes}
@@ -56,7 +56,7 @@ stored-outside ram address width value i d w held (inr after) =
 -- a byte of a list of bytes, and what is read past its end, is below 256
 pub byte_below : (bytes : List ℕ) (i : ℕ) → All (λ b. b < 256) bytes → get_or bytes i 0 < 256
 byte_below bytes i old =
-    elim (dec_lt i (length bytes)) [ yes within ↦ All-get_or (λ b. b < 256) bytes i 0 within old | no past ↦ let e = get_or_past bytes i 0 (omega (arith, past)) in omega (arith, e) ]
+    elim (cases_lt i (length bytes)) [ inl within ↦ All-get_or (λ b. b < 256) bytes i 0 within old | inr past ↦ omega (arith, get_or_past bytes i 0 past) ]
 
 -- the bytes of a value are below 256
 pub low_bytes : (value : ℕ) → All (λ b. b < 256) (to_le_bytes w32 value)

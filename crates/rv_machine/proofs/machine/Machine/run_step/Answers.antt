@@ -1,5 +1,5 @@
 use Rattle.std.proofs.Common.{◌≡◌, ℕ, suc, ◌-◌, sym, ap, subst, ◌∙◌, arith}
-use Rattle.list_laws.proofs.OptionLaws.{none_left}
+use Rattle.list_laws.proofs.OptionLaws.{none_from_is_some}
 use Rattle.machine_model.specs.Step.{step_from}
 use Rattle.rv_machine.specs.Recorder.{Recorder, item_of, Turned}
 use Rattle.rv_machine.proofs.TurnLaws.{ends_at_limit, ends_stuck, turned}
@@ -15,7 +15,7 @@ more_left n some = omega arith
 pub returns-then-not-can_step : goal.returns-then-not-can_step
 returns-then-not-can_step c =
     ends_stuck (item_of c.end-then-not-can_step.result) (c.self.inside.left - 1) c.args.self.now c.end-then-not-can_step.new.self c.requires (ap (λ m. m.left) (sym c.self.view_is) ∙ more_left c.self.inside.left c.if-self-eq0.false)
-    (ap (λ m. step_from m.cpu) (sym c.self.view_is) ∙ none_left (step_from c.self.inside.cpu) (sym c.can_step.ensures ∙ c.if-not-can_step.true)) c.end-then-not-can_step.ensures.given c.end-then-not-can_step.ensures.record c.end-then-not-can_step.ensures.over c.end-then-not-can_step.ensures.same
+    (ap (λ m. step_from m.cpu) (sym c.self.view_is) ∙ none_from_is_some (step_from c.self.inside.cpu) (sym c.can_step.ensures ∙ c.if-not-can_step.true)) c.end-then-not-can_step.ensures.given c.end-then-not-can_step.ensures.record c.end-then-not-can_step.ensures.over c.end-then-not-can_step.ensures.same
 
 pub returns : goal.returns
 returns c =
