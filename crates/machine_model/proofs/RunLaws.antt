@@ -1,5 +1,5 @@
 -- How a finished run goes on from a state, and which steps its events stand at.
-use Rattle.std.proofs.Common.{◌≡◌, ℕ, suc, ◌+◌, true, false, cond, List, [], ◌∷◌, ◌++◌, Option, Some, None, refl, sym, ap, subst, ◌∙◌, append_assoc}
+use Rattle.std.proofs.Common.{◌≡◌, ℕ, suc, ◌+◌, true, false, cond, [], ◌∷◌, Option, Some, None, refl, ap, subst, ◌∙◌}
 use Rattle.std.specs.Option.{option_and_then}
 use Rattle.run_events.specs.declared.event.Event.{Event}
 use Rattle.run_events.specs.declared.record.EndCause.TheVariants.{Power, Limit, Stuck}
@@ -7,7 +7,7 @@ use Rattle.run_events.specs.Event.{step_of}
 use Rattle.machine_model.specs.State.{State}
 use Rattle.machine_model.specs.Instruction.{Instruction, instruction}
 use Rattle.machine_model.specs.Step.{step_from, fetched, executed, is_built, shown_by, state_after}
-use Rattle.machine_model.specs.Run.{Finished, run_from, run_on, run_after, after_event, power_status}
+use Rattle.machine_model.specs.Run.{run_from, run_on, run_after, after_event, power_status}
 
 -- no steps are left
 pub run_from-limit : (s : State) → run_from 0 s ≡ record { events = []; steps = s.step; cause = Limit }
@@ -59,14 +59,3 @@ of_fetched s (Some word) = of_instruction s word (instruction word)
 -- a step shows its number, and the next step has the next number
 pub step_from-IsStep : (s : State) (event : Event) (next : State) → step_from s ≡ Some (event, next) → IsStep s event next
 step_from-IsStep s event next is = subst (OfStep s) is (of_fetched s (fetched s.pc s.ram))
-
--- a finished run behind events that came before it
-abbrev pub after_events : List Event → Finished → Finished
-after_events events run = record run { events = events ++ run.events }
-
--- one event more before it
-pub after_events-more : (events : List Event) (event : Event) (run : Finished) → after_events events (after_event event run) ≡ after_events (events ++ event ∷ []) run
-after_events-more events event run = ap (λ l. record run { events = l }) (sym (append_assoc events (event ∷ []) run.events))
-
-pub after_events-none : (run : Finished) → after_events [] run ≡ run
-after_events-none run = refl
