@@ -1,5 +1,5 @@
 -- How a finished run goes on from a state, and which steps its events stand at.
-use Rattle.std.proofs.Common.{◌≡◌, ℕ, suc, ◌+◌, true, false, cond, [], ◌∷◌, Option, Some, None, refl, ap, subst, ◌∙◌}
+use Rattle.std.proofs.Common.{◌≡◌, ℕ, suc, ◌+◌, true, false, cond, [], ◌∷◌, Option, Some, None, refl, ap, subst, ◌∙◌, zero}
 use Rattle.std.specs.Option.{option_and_then}
 use Rattle.run_events.specs.declared.event.Event.{Event}
 use Rattle.run_events.specs.declared.record.EndCause.TheVariants.{Power, Limit, Stuck}
@@ -59,3 +59,19 @@ of_fetched s (Some word) = of_instruction s word (instruction word)
 -- a step shows its number, and the next step has the next number
 pub step_from-IsStep : (s : State) (event : Event) (next : State) → step_from s ≡ Some (event, next) → IsStep s event next
 step_from-IsStep s event next is = subst (OfStep s) is (of_fetched s (fetched s.pc s.ram))
+
+-- What holds at the end of a run, and of a run where it holds behind the next step, holds of each run.
+module _ (P : ℕ → State → Type 0) (limit : (s : State) → P 0 s) (stuck : (left : ℕ) (s : State) → step_from s ≡ None → P (suc left) s)
+    (power : (left : ℕ) (s next : State) (event : Event) (status : ℕ) → step_from s ≡ Some (event, next) → power_status event ≡ Some status → P (suc left) s)
+    (goes : (left : ℕ) (s next : State) (event : Event) → step_from s ≡ Some (event, next) → power_status event ≡ None → P left next → P (suc left) s) where
+  by_status : (left : ℕ) (s next : State) (event : Event) → step_from s ≡ Some (event, next) → P left next → (o : Option ℕ) → power_status event ≡ o → P (suc left) s
+  by_status left s next event is again (Some status) stores = power left s next event status is stores
+  by_status left s next event is again None quiet = goes left s next event is quiet again
+
+  by_step : (left : ℕ) (s : State) → ((next : State) → P left next) → (o : Option (Event × State)) → step_from s ≡ o → P (suc left) s
+  by_step left s again None none = stuck left s none
+  by_step left s again (Some (event, next)) is = by_status left s next event is (again next) (power_status event) refl
+
+  pub each_run : (left : ℕ) (s : State) → P left s
+  each_run zero s = limit s
+  each_run (suc left) s = by_step left s (λ next. each_run left next) (step_from s) refl
