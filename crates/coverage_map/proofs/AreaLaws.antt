@@ -1,18 +1,15 @@
 -- Ranges of code, and the spans that their numbers give.
-use Rattle.std.proofs.Common.{◌≡◌, ℕ, suc, ◌+◌, ◌<◌, length, drop, get_or, true, false, Bool, ◌||◌, List, [], ◌∷◌, ◌++◌, refl, sym, ap, ◌∙◌, append_assoc}
+use Rattle.std.proofs.Common.{◌≡◌, ℕ, ◌+◌, ◌<◌, length, drop, get_or, true, false, Bool, List, [], ◌∷◌, ◌++◌, refl, sym, ap, ◌∙◌, append_assoc}
 use Rattle.std.proofs.lemmas.List.{drop_more}
 use Rattle.machine_model.specs.Image.{Segment}
 use Rattle.analysis_model.specs.Cover.{is_within}
 use Rattle.analysis_model.specs.Made.{code_numbers, spans_made_of}
 use Rattle.coverage_map.specs.declared.area.Area.{Area}
-use Rattle.coverage_map.specs.Coverage.{holds, area_numbers}
+use Rattle.coverage_map.specs.Coverage.{area_numbers}
 
 -- an address of the ranges of code from a place on
 abbrev pub is_code_behind : List Area → ℕ → ℕ → Bool
 is_code_behind code place pc = is_within (spans_made_of (area_numbers (drop place code))) pc
-
-pub is_code_behind-one : (code : List Area) (place pc : ℕ) (area : Area) → drop place code ≡ area ∷ drop (suc place) code → is_code_behind code place pc ≡ (holds area pc || is_code_behind code (suc place) pc)
-is_code_behind-one code place pc area e = ap (λ l. is_within (spans_made_of (area_numbers l)) pc) e
 
 pub area_numbers-last : (code : List Area) (area : Area) → area_numbers (code ++ area ∷ []) ≡ area_numbers code ++ area.address ∷ area.size ∷ []
 area_numbers-last [] area = refl

@@ -2,22 +2,20 @@
 use Rattle.std.proofs.Common.{◌≡◌, ℕ, zero, suc, ◌+◌, ◌<◌, ◌≤◌, Bool, true, false, cond, List, [], ◌∷◌, length, take, drop, reverse, Option, Some, None, refl, sym, ap, subst, ◌∙◌, arith, take-append-drop}
 use Rattle.std.specs.Prelude.{nat_lt, min, unwrap_or, slice_index, IfSome}
 use Rattle.std.specs.Option.{option_map}
-use Rattle.std.specs.List.{flat_map, cons_option}
+use Rattle.std.specs.List.{cons_option}
 use Rattle.std.proofs.lemmas.List.{take_all}
 use Rattle.std.proofs.lemmas.Option.{none-some}
 use Rattle.std.proofs.lemmas.Bool.{and_from}
 use Rattle.list_laws.proofs.PrefixLaws.{take_IsPrefix}
 use Rattle.run_events.specs.declared.event.Event.{Event}
 use Rattle.run_events.specs.declared.record.Record.{Record}
-use Rattle.run_events.specs.declared.record.Record.TheVariants.{End}
 use Rattle.run_events.specs.Event.{step_of}
-use Rattle.run_events.proofs.RecordLaws.{reach_push}
 use Rattle.run_events.specs.Record.{number, reach, is_admitted, is_ordered, is_ordered_back}
 use Rattle.machine_model.specs.State.{State}
-use Rattle.machine_model.specs.Run.{run_from, output, serial_byte, records_of}
+use Rattle.machine_model.specs.Run.{output, serial_byte}
 use Rattle.machine_model.specs.Replay.{Fault, StepFalls, first_fault_back, elsewhere, first_end, shown_back}
-use Rattle.machine_model.proofs.NumberLaws.{Numbered, IsNumbered, run_from-IsNumbered, below_taken, from_dropped}
-use Rattle.machine_model.proofs.ShownLaws.{fits_parts}
+use Rattle.machine_model.proofs.NumberLaws.{Numbered, IsNumbered, run_from-numbered, below_taken, from_dropped}
+use Rattle.machine_model.proofs.ShownLaws.{fits_parts, reach_log}
 use Rattle.replayer.proofs.Determinism.{each_front_fits, front_shown}
 use Rattle.analysis_model.specs.Made.{code_made_of, kind_made_of}
 use Rattle.analysis_model.specs.Findings.{findings, first_step}
@@ -63,7 +61,7 @@ rises_of low high (step ∷ steps) climbs = (climbs.0, rises_of step high steps 
 
 module _ (c : Course) (is : IsCourse c) where
   pub numbered : IsNumbered 0 (run_of c)
-  numbered = subst (λ n. IsNumbered n (run_from c.limit c.start)) is.first (run_from-IsNumbered c.limit c.start)
+  numbered = run_from-numbered c.limit c.start is.first
 
   -- each front of the log fits the guest
   pub front_fits : (k : ℕ) → first_fault_back c.start (reverse (take k (log_of c))) ≡ None
@@ -81,7 +79,7 @@ module _ (c : Course) (is : IsCourse c) where
 
   -- the whole log reaches the end of the run
   pub reach_whole : reach (log_of c) ≡ (run_of c).steps
-  reach_whole = reach_push (flat_map records_of (run_of c).events) (End (run_of c).steps (run_of c).cause)
+  reach_whole = reach_log (run_of c)
 
   pub reach_less : (k j : ℕ) → k ≤ j → reached (plan_of c) k ≤ reached (plan_of c) j
   reach_less k j le = reach_rises (log_of c) ordered k j le

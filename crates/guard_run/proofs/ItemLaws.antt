@@ -1,10 +1,10 @@
 -- The items of a course, and the bytes that they let go.
-use Rattle.std.proofs.Common.{◌≡◌, ℕ, zero, suc, ◌+◌, ◌<◌, ◌≤◌, Bool, true, false, cond, List, [], ◌∷◌, ◌++◌, length, take, drop, Option, Some, None, refl, sym, ap, subst, ◌∙◌, arith, append_assoc, length-append, take-append-drop}
+use Rattle.std.proofs.Common.{◌≡◌, ℕ, ◌+◌, ◌<◌, ◌≤◌, Bool, true, false, cond, List, [], ◌∷◌, ◌++◌, length, take, drop, Option, Some, None, refl, sym, ap, subst, ◌∙◌, arith, append_assoc, length-append, take-append-drop}
 use Rattle.std.specs.Prelude.{◌||◌, ◌==◌, ◌%◌, is_some, slice_get, IfSome, option_map}
 use Rattle.std.specs.List.{AllByRecursion, flat_map, cons_option, All}
 use Rattle.std.proofs.lemmas.List.{length-map, take_all, length-drop, drop-drop}
 use Rattle.std.proofs.lemmas.List.Elements.{filter_map-append, All-from_recursion, All-map, All-weaker}
-use Rattle.std.proofs.lemmas.Option.{get_or_from_slice_get, slice_get_within, slice_get-map}
+use Rattle.std.proofs.lemmas.Option.{slice_get_within, slice_get-map}
 use Rattle.list_laws.specs.Prefix.{IsPrefix}
 use Rattle.list_laws.proofs.PlaceLaws.{all-at, dropped-at}
 use Rattle.list_laws.proofs.PrefixLaws.{take-next}
@@ -15,12 +15,11 @@ use Rattle.run_events.specs.Event.{step_of}
 use Rattle.run_events.proofs.RecordLaws.{reach_push}
 use Rattle.run_events.specs.Record.{IsRecord, number, reach}
 use Rattle.machine_model.specs.State.{State}
-use Rattle.machine_model.specs.Step.{step_from}
-use Rattle.machine_model.specs.Run.{Finished, run_from, serial_byte, power_status}
+use Rattle.machine_model.specs.Run.{Finished, run_from, serial_byte}
 use Rattle.machine_model.specs.Items.{Item, items, items_behind, byte_of, bytes_of}
 use Rattle.machine_model.specs.Replay.{is_taken}
 use Rattle.machine_model.proofs.ItemLaws.{items-log, items-output}
-use Rattle.machine_model.proofs.RunLaws.{run_from-limit, run_from-stuck, run_from-power, run_from-goes}
+use Rattle.machine_model.proofs.RunLaws.{run_from-limit, run_from-stuck, run_from-power, run_from-goes, each_run}
 use Rattle.machine_model.proofs.ShownLaws.{log_AreWithin}
 use Rattle.gate_core.specs.Core.{reached}
 use Rattle.guard_run.specs.Course.{Course, IsCourse, run_of, log_of, output_of, plan_of}
@@ -28,17 +27,12 @@ use Rattle.guard_run.specs.Gates.{issued_by, IsMarked}
 use Rattle.guard_run.proofs.CourseLaws.{numbered}
 
 -- a run has at most one event a step, and at most one item an event
-steps_by_status : (left : ℕ) (s next : State) (event : Event) → step_from s ≡ Some (event, next) → length (run_from left next).events ≤ left → (o : Option ℕ) → power_status event ≡ o → length (run_from (suc left) s).events ≤ suc left
-steps_by_status left s next event is rest (Some status) power = omega (arith, ap (λ (f : Finished). length f.events) (run_from-power left s next event status is power))
-steps_by_status left s next event is rest None power = omega (arith, ap (λ (f : Finished). length f.events) (run_from-goes left s next event is power), rest)
-
-steps_by_step : (left : ℕ) (s : State) → ((next : State) → length (run_from left next).events ≤ left) → (o : Option (Event × State)) → step_from s ≡ o → length (run_from (suc left) s).events ≤ suc left
-steps_by_step left s rest None none = omega (arith, ap (λ (f : Finished). length f.events) (run_from-stuck left s none))
-steps_by_step left s rest (Some (event, next)) is = steps_by_status left s next event is (rest next) (power_status event) refl
-
 steps_short : (left : ℕ) (s : State) → length (run_from left s).events ≤ left
-steps_short zero s = omega (arith, ap (λ (f : Finished). length f.events) (run_from-limit s))
-steps_short (suc left) s = steps_by_step left s (λ next. steps_short left next) (step_from s) refl
+steps_short =
+    each_run (λ left s. length (run_from left s).events ≤ left) (λ s. omega (arith, ap (λ (f : Finished). length f.events) (run_from-limit s)))
+    (λ left s none. omega (arith, ap (λ (f : Finished). length f.events) (run_from-stuck left s none)))
+    (λ left s next event status is power. omega (arith, ap (λ (f : Finished). length f.events) (run_from-power left s next event status is power)))
+    (λ left s next event is power rest. omega (arith, ap (λ (f : Finished). length f.events) (run_from-goes left s next event is power), rest))
 
 behind_short : (b : Bool) (i : Item) → length {A = Item} (cond b (i ∷ []) []) ≤ 1
 behind_short true i = omega arith

@@ -15,7 +15,7 @@ use Rattle.machine_model.specs.State.{State}
 use Rattle.machine_model.specs.Step.{step_from}
 use Rattle.machine_model.specs.Run.{Finished, run_from, power_status, serial_byte, records_of, log}
 use Rattle.machine_model.specs.Replay.{next_of, state_at, shown_at, event_at, power_at, last_power, StepFalls, EndsElsewhere, is_after_power, is_stuck, is_elsewhere, ends_at, first_end, has_status, end_agrees, agrees, elsewhere, fault_of, fault_behind, first_fault_back}
-use Rattle.machine_model.proofs.RunLaws.{step_from-IsStep, run_from-limit, run_from-stuck, run_from-power, run_from-goes}
+use Rattle.machine_model.proofs.RunLaws.{step_from-IsStep, run_from-limit, run_from-stuck, run_from-power, run_from-goes, each_run}
 
 -- a step that was executed and is no power store
 pub record IsClear (k : ℕ) (start : State) : Type 0 where
@@ -224,17 +224,9 @@ log_goes_fits left start s next event is power again before at clear open' fits 
     subst (λ run. FitsOn start before (log run)) (sym (run_from-goes left s next event is power))
     (subst (FitsOn start before) (sym (log_goes event (run_from left next))) (behind_event start s next event before (log (run_from left next)) None at is power clear open' fits rest))
 
-log_by_status : (left : ℕ) (start s next : State) (event : Event) → step_from s ≡ Some (event, next) → LogFits left start next → (o : Option ℕ) → power_status event ≡ o → LogFits (suc left) start s
-log_by_status left start s next event is again (Some status) power = log_power_fits left start s next event status is power
-log_by_status left start s next event is again None power = log_goes_fits left start s next event is power again
-
-log_by_step : (left : ℕ) (start s : State) → ((next : State) → LogFits left start next) → (o : Option (Event × State)) → step_from s ≡ o → LogFits (suc left) start s
-log_by_step left start s again None none = log_stuck left start s none
-log_by_step left start s again (Some (event, next)) is = log_by_status left start s next event is (again next) (power_status event) refl
-
 log_fits_on : (left : ℕ) (start s : State) → LogFits left start s
-log_fits_on zero start s = log_at_limit start s
-log_fits_on (suc left) start s = log_by_step left start s (λ next. log_fits_on left start next) (step_from s) refl
+log_fits_on left start s =
+    each_run (λ left s. LogFits left start s) (log_at_limit start) (λ left. log_stuck left start) (λ left. log_power_fits left start) (λ left. log_goes_fits left start) left s
 
 pub no_fault_yet : (start : State) → first_fault_back start [] ≡ None
 unfolding first_fault_back

@@ -1,12 +1,12 @@
 -- The events of a run stand at its steps, one each, in order.
-use Rattle.std.proofs.Common.{◌≡◌, ℕ, zero, suc, ◌+◌, ◌<◌, ◌≤◌, List, [], ◌∷◌, length, take, drop, Option, Some, None, refl, sym, subst, ◌∙◌, arith}
+use Rattle.std.proofs.Common.{◌≡◌, ℕ, zero, suc, ◌+◌, ◌<◌, ◌≤◌, List, [], ◌∷◌, length, take, drop, Some, None, sym, subst, arith}
 use Rattle.std.specs.List.{AllByRecursion}
 use Rattle.run_events.specs.declared.event.Event.{Event}
 use Rattle.run_events.specs.Event.{step_of}
 use Rattle.machine_model.specs.State.{State}
 use Rattle.machine_model.specs.Step.{step_from}
 use Rattle.machine_model.specs.Run.{Finished, run_from, power_status}
-use Rattle.machine_model.proofs.RunLaws.{step_from-IsStep, run_from-limit, run_from-stuck, run_from-power, run_from-goes}
+use Rattle.machine_model.proofs.RunLaws.{step_from-IsStep, run_from-limit, run_from-stuck, run_from-power, run_from-goes, each_run}
 
 -- event by event from step n on
 abbrev pub Numbered : ℕ → List Event → Type 0
@@ -18,25 +18,28 @@ pub record IsNumbered (n : ℕ) (run : Finished) : Type 0 where
   pub events : Numbered n run.events
   pub steps : run.steps ≡ n + length run.events
 
-by_status : (left n : ℕ) (s next : State) (event : Event) → s.step ≡ n → step_from s ≡ Some (event, next) → IsNumbered next.step (run_from left next) → (o : Option ℕ) → power_status event ≡ o → IsNumbered n (run_from (suc left) s)
-by_status left n s next event at is rest (Some status) power =
+numbered_power : (left : ℕ) (s next : State) (event : Event) (status : ℕ) → step_from s ≡ Some (event, next) → power_status event ≡ Some status → IsNumbered s.step (run_from (suc left) s)
+numbered_power left s next event status is power =
     let step = step_from-IsStep s event next is in
-    subst (IsNumbered n) (sym (run_from-power left s next event status is power)) (record { events = (step.numbered ∙ at, tt); steps = omega (arith, step.counted) })
-by_status left n s next event at is rest None power =
+    subst (IsNumbered s.step) (sym (run_from-power left s next event status is power)) (record { events = (step.numbered, tt); steps = omega (arith, step.counted) })
+
+numbered_goes : (left : ℕ) (s next : State) (event : Event) → step_from s ≡ Some (event, next) → power_status event ≡ None → IsNumbered next.step (run_from left next) → IsNumbered s.step (run_from (suc left) s)
+numbered_goes left s next event is power rest =
     let step = step_from-IsStep s event next is in
-    let next_is : next.step ≡ suc n = omega (arith, step.counted) in
-    subst (IsNumbered n) (sym (run_from-goes left s next event is power)) (record {
-      events = (step.numbered ∙ at, subst (λ m. Numbered m (run_from left next).events) next_is rest.events);
+    let next_is : next.step ≡ suc s.step = omega (arith, step.counted) in
+    subst (IsNumbered s.step) (sym (run_from-goes left s next event is power)) (record {
+      events = (step.numbered, subst (λ m. Numbered m (run_from left next).events) next_is rest.events);
       steps = omega (arith, rest.steps);
     })
 
-by_step : (left n : ℕ) (s : State) → s.step ≡ n → ((next : State) → IsNumbered next.step (run_from left next)) → (o : Option (Event × State)) → step_from s ≡ o → IsNumbered n (run_from (suc left) s)
-by_step left n s at rest None none = subst (IsNumbered n) (sym (run_from-stuck left s none)) (record { events = tt; steps = omega arith })
-by_step left n s at rest (Some (event, next)) is = by_status left n s next event at is (rest next) (power_status event) refl
-
 pub run_from-IsNumbered : (left : ℕ) (s : State) → IsNumbered s.step (run_from left s)
-run_from-IsNumbered zero s = subst (IsNumbered s.step) (sym (run_from-limit s)) (record { events = tt; steps = omega arith })
-run_from-IsNumbered (suc left) s = by_step left s.step s refl (λ next. run_from-IsNumbered left next) (step_from s) refl
+run_from-IsNumbered =
+    each_run (λ left s. IsNumbered s.step (run_from left s)) (λ s. subst (IsNumbered s.step) (sym (run_from-limit s)) (record { events = tt; steps = omega arith }))
+    (λ left s none. subst (IsNumbered s.step) (sym (run_from-stuck left s none)) (record { events = tt; steps = omega arith })) numbered_power numbered_goes
+
+-- those of a run from the first step on
+pub run_from-numbered : (limit : ℕ) (start : State) → start.step ≡ 0 → IsNumbered 0 (run_from limit start)
+run_from-numbered limit start first = subst (λ n. IsNumbered n (run_from limit start)) first (run_from-IsNumbered limit start)
 
 -- the first m events from step n on stand below n + m, and those behind them do not
 pub below_taken : (n m : ℕ) (events : List Event) → Numbered n events → AllByRecursion (λ event. step_of event < n + m) (take m events)

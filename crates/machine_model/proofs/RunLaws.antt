@@ -1,5 +1,5 @@
 -- How a finished run goes on from a state, and which steps its events stand at.
-use Rattle.std.proofs.Common.{◌≡◌, ℕ, suc, ◌+◌, true, false, cond, List, [], ◌∷◌, ◌++◌, Option, Some, None, refl, sym, ap, subst, ◌∙◌, append_assoc}
+use Rattle.std.proofs.Common.{◌≡◌, ℕ, suc, ◌+◌, true, false, cond, [], ◌∷◌, Option, Some, None, refl, ap, subst, ◌∙◌, zero}
 use Rattle.std.specs.Option.{option_and_then}
 use Rattle.run_events.specs.declared.event.Event.{Event}
 use Rattle.run_events.specs.declared.record.EndCause.TheVariants.{Power, Limit, Stuck}
@@ -7,7 +7,7 @@ use Rattle.run_events.specs.Event.{step_of}
 use Rattle.machine_model.specs.State.{State}
 use Rattle.machine_model.specs.Instruction.{Instruction, instruction}
 use Rattle.machine_model.specs.Step.{step_from, fetched, executed, is_built, shown_by, state_after}
-use Rattle.machine_model.specs.Run.{Finished, run_from, run_on, run_after, after_event, power_status}
+use Rattle.machine_model.specs.Run.{run_from, run_on, run_after, after_event, power_status}
 
 -- no steps are left
 pub run_from-limit : (s : State) → run_from 0 s ≡ record { events = []; steps = s.step; cause = Limit }
@@ -60,13 +60,18 @@ of_fetched s (Some word) = of_instruction s word (instruction word)
 pub step_from-IsStep : (s : State) (event : Event) (next : State) → step_from s ≡ Some (event, next) → IsStep s event next
 step_from-IsStep s event next is = subst (OfStep s) is (of_fetched s (fetched s.pc s.ram))
 
--- a finished run behind events that came before it
-abbrev pub after_events : List Event → Finished → Finished
-after_events events run = record run { events = events ++ run.events }
+-- What holds at the end of a run, and of a run where it holds behind the next step, holds of each run.
+module _ (P : ℕ → State → Type 0) (limit : (s : State) → P 0 s) (stuck : (left : ℕ) (s : State) → step_from s ≡ None → P (suc left) s)
+    (power : (left : ℕ) (s next : State) (event : Event) (status : ℕ) → step_from s ≡ Some (event, next) → power_status event ≡ Some status → P (suc left) s)
+    (goes : (left : ℕ) (s next : State) (event : Event) → step_from s ≡ Some (event, next) → power_status event ≡ None → P left next → P (suc left) s) where
+  by_status : (left : ℕ) (s next : State) (event : Event) → step_from s ≡ Some (event, next) → P left next → (o : Option ℕ) → power_status event ≡ o → P (suc left) s
+  by_status left s next event is again (Some status) stores = power left s next event status is stores
+  by_status left s next event is again None quiet = goes left s next event is quiet again
 
--- one event more before it
-pub after_events-more : (events : List Event) (event : Event) (run : Finished) → after_events events (after_event event run) ≡ after_events (events ++ event ∷ []) run
-after_events-more events event run = ap (λ l. record run { events = l }) (sym (append_assoc events (event ∷ []) run.events))
+  by_step : (left : ℕ) (s : State) → ((next : State) → P left next) → (o : Option (Event × State)) → step_from s ≡ o → P (suc left) s
+  by_step left s again None none = stuck left s none
+  by_step left s again (Some (event, next)) is = by_status left s next event is (again next) (power_status event) refl
 
-pub after_events-none : (run : Finished) → after_events [] run ≡ run
-after_events-none run = refl
+  pub each_run : (left : ℕ) (s : State) → P left s
+  each_run zero s = limit s
+  each_run (suc left) s = by_step left s (λ next. each_run left next) (step_from s) refl

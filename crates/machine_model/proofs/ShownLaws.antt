@@ -8,14 +8,15 @@ use Rattle.run_events.specs.declared.record.EndCause.TheVariants.{Limit}
 use Rattle.run_events.specs.declared.record.Record.{Record}
 use Rattle.run_events.specs.declared.record.Record.TheVariants.{Reach, End}
 use Rattle.run_events.specs.Event.{step_of}
-use Rattle.run_events.specs.Record.{number, reach_back}
+use Rattle.run_events.specs.Record.{number, reach_back, reach}
+use Rattle.run_events.proofs.RecordLaws.{reach_push}
 use Rattle.machine_model.specs.State.{State}
 use Rattle.machine_model.specs.Step.{step_from}
 use Rattle.machine_model.specs.Run.{Finished, run_from, power_status, serial_byte, records_of, log}
 use Rattle.machine_model.specs.Replay.{state_at, event_at, events_below, Fault, fault_of, fault_behind, first_fault_back, executed_to, executed_behind, executed_back, shown_back}
 use Rattle.machine_model.proofs.Determinism.{state_at-first, stepped_event, stepped_state, same_step}
 use Rattle.machine_model.proofs.NumberLaws.{Numbered, IsNumbered}
-use Rattle.machine_model.proofs.RunLaws.{run_from-limit, run_from-stuck, run_from-power, run_from-goes}
+use Rattle.machine_model.proofs.RunLaws.{run_from-limit, run_from-stuck, run_from-power, run_from-goes, each_run}
 
 pub first_fault_back-cons : (start : State) (before : List Record) (item : Record) → first_fault_back start (item ∷ before) ≡ fault_behind start before item (first_fault_back start before)
 unfolding first_fault_back
@@ -90,17 +91,10 @@ shows_ended : (start s : State) (run : Finished) → run.events ≡ [] → (i : 
 shows_ended start s run none zero within = shows_none start s run
 shows_ended start s run none (suc i) within = absurd (omega (arith, ap length none))
 
-shows_by_status : (left : ℕ) (start s next : State) (event : Event) → step_from s ≡ Some (event, next) → Shows left start next → (o : Option ℕ) → power_status event ≡ o → Shows (suc left) start s
-shows_by_status left start s next event is again (Some status) power = shows_power left start s next event status is power
-shows_by_status left start s next event is again None power = shows_goes left start s next event is power again
-
-shows_by_step : (left : ℕ) (start s : State) → ((next : State) → Shows left start next) → (o : Option (Event × State)) → step_from s ≡ o → Shows (suc left) start s
-shows_by_step left start s again None none = λ i at within. shows_ended start s (run_from (suc left) s) (ap (λ (run : Finished). run.events) (run_from-stuck left s none)) i within
-shows_by_step left start s again (Some (event, next)) is = shows_by_status left start s next event is (again next) (power_status event) refl
-
 shows : (left : ℕ) (start s : State) → Shows left start s
-shows zero start s = λ i at within. shows_ended start s (run_from 0 s) (ap (λ (run : Finished). run.events) (run_from-limit s)) i within
-shows (suc left) start s = shows_by_step left start s (λ next. shows left start next) (step_from s) refl
+shows left start s =
+    each_run (λ left s. Shows left start s) (λ s i at. shows_ended start s (run_from 0 s) (ap (λ (run : Finished). run.events) (run_from-limit s)) i)
+    (λ left s none i at. shows_ended start s (run_from (suc left) s) (ap (λ (run : Finished). run.events) (run_from-stuck left s none)) i) (λ left. shows_power left start) (λ left. shows_goes left start) left s
 
 -- the events below a number are the run's first ones
 pub events_below-run : (limit : ℕ) (start : State) (m : ℕ) → start.step ≡ 0 → m ≤ length (run_from limit start).events → events_below m start ≡ take m (run_from limit start).events
@@ -114,6 +108,10 @@ events_below-run limit start m first within =
 pub shown_back-run : (limit : ℕ) (start : State) (items : List Record) → start.step ≡ 0 → first_fault_back start items ≡ None → reach_back items ≤ length (run_from limit start).events
     → shown_back start items ≡ take (reach_back items) (run_from limit start).events
 shown_back-run limit start items first fits within = ap (λ n. events_below n start) (executed_fits start items fits) ∙ events_below-run limit start (reach_back items) first within
+
+-- a log comes as far as its run
+pub reach_log : (run : Finished) → reach (log run) ≡ run.steps
+reach_log run = reach_push (flat_map records_of run.events) (End run.steps run.cause)
 
 -- no record of a log comes further than the run
 abbrev pub AreWithin : ℕ → List Record → Type 0

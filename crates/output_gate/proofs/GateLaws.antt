@@ -108,21 +108,6 @@ count_below-before (step ∷ steps) low high below zero climbs less =
 count_below-before (step ∷ steps) low high below (suc k) climbs less =
     count_below-before steps (step + 1) high below k climbs.1 (omega (arith, less, count_below-more below step steps))
 
--- the step behind those, where there is one, is not below
-pub count_below-behind : (steps : List ℕ) (low high below : ℕ) → Climbs low steps high → count_below below steps < length steps → below ≤ slice_index steps (count_below below steps)
-count_below-behind [] low high below climbs less = absurd (omega arith)
-count_below-behind (step ∷ steps) low high below climbs less =
-    let kept : List ℕ = filter (λ s. nat_lt s below) steps in
-    let by_test : (b : Bool) → nat_lt step below ≡ b → length (cond b (step ∷ kept) kept) < length (step ∷ steps) → below ≤ slice_index (step ∷ steps) (length (cond b (step ∷ kept) kept)) =
-    λ b. elim b as (λ b. nat_lt step below ≡ b → length (cond b (step ∷ kept) kept) < length (step ∷ steps) → below ≤ slice_index (step ∷ steps) (length (cond b (step ∷ kept) kept))) [
-      | true ↦ λ test within. count_below-behind steps (step + 1) high below climbs.1 (omega arith)
-      | false ↦ λ test within.
-          let far : below ≤ step = grind arith in
-          let none : length kept ≡ 0 = count_below-none steps (step + 1) high below (omega arith) climbs.1 in
-          rw none far
-    ] in
-    by_test (nat_lt step below) refl less
-
 -- the steps below a number, of those that climb, climb up to it
 pub filter-Climbs : (steps : List ℕ) (low high below : ℕ) → Climbs low steps high → low ≤ below → Climbs low (filter (λ step. nat_lt step below) steps) below
 filter-Climbs [] low high below climbs l = l

@@ -3,7 +3,7 @@ use Rattle.std.proofs.Common.{◌≡◌, ℕ, ◌+◌, ◌-◌, ◌<◌, ◌≤�
 use Rattle.std.specs.Prelude.{IfSome}
 use Rattle.std.proofs.lemmas.List.{length-drop, length-take-le, length_push}
 use Rattle.circular_buffer.specs.Buffer.{keep_last}
-use Rattle.output_gate.specs.Gate.{GateState, IsGate, Climbs, behind, count_below, is_withheld, least_from, with_failure, with_release, with_withheld}
+use Rattle.output_gate.specs.Gate.{GateState, IsGate, Climbs, behind, count_below, is_withheld, least_from, with_release, with_withheld}
 use Rattle.output_gate.proofs.GateLaws.{Climbs-wider, Climbs-push, Climbs-take, Climbs-drop, Climbs-min, Climbs-below, count_below-within}
 
 -- where a ring is not full, fewer items than it may hold are in it
@@ -76,17 +76,6 @@ release-IsGate g count was some =
       order = λ same. Climbs-drop count g.steps g.passed g.next (was.order same);
       below = λ same. drop-below g.from g.steps g.passed count (was.below same);
     }
-
-pub failure-IsGate : (g : GateState) (count : ℕ) → IsGate g → IsGate (with_failure g count)
-failure-IsGate g count was = record {
-  few = was.few;
-  paired = was.paired;
-  counted = was.counted;
-  rising = was.rising;
-  within = was.within;
-  order = λ same. absurd (cc);
-  below = λ same. absurd (cc);
-}
 
 pub withhold-IsGate : (g : GateState) (step : ℕ) → IsGate g → g.passed ≤ step → IsGate (with_withheld g step)
 withhold-IsGate g step was passed =

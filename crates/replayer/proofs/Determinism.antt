@@ -1,19 +1,16 @@
 -- Each front of a run's own log fits its guest, and what is shown of it are the run's first events.
 use Rattle.std.proofs.Common.{◌≡◌, ℕ, ◌≤◌, List, [], ◌∷◌, ◌++◌, take, None, sym, subst, ◌∙◌, arith, take_all}
-use Rattle.std.specs.List.{flat_map}
 use mathlib.Core.List.{reverse_aux}
 use Rattle.list_laws.specs.Prefix.{IsPrefix}
 use Rattle.list_laws.proofs.PrefixLaws.{whole_IsPrefix}
 use Rattle.run_events.specs.declared.record.Record.{Record}
-use Rattle.run_events.specs.declared.record.Record.TheVariants.{End}
-use Rattle.run_events.proofs.RecordLaws.{reach_push}
 use Rattle.run_events.specs.Record.{reach_back, reach}
 use Rattle.machine_model.specs.State.{State}
-use Rattle.machine_model.specs.Run.{run_from, records_of, log}
+use Rattle.machine_model.specs.Run.{run_from, log}
 use Rattle.machine_model.specs.Replay.{first_fault_back, first_fault, shown}
 use Rattle.machine_model.proofs.Determinism.{FitsOn, fits_here, fits_there, log_FitsOn}
-use Rattle.machine_model.proofs.NumberLaws.{IsNumbered, run_from-IsNumbered}
-use Rattle.machine_model.proofs.ShownLaws.{AreWithin, log_AreWithin, shown_back-run}
+use Rattle.machine_model.proofs.NumberLaws.{run_from-numbered}
+use Rattle.machine_model.proofs.ShownLaws.{AreWithin, log_AreWithin, reach_log, shown_back-run}
 
 -- what a list that fits says of its front and of what stands behind it
 pub FitsOn-here : (start : State) (before its : List Record) → FitsOn start before its → first_fault_back start before ≡ None
@@ -33,14 +30,12 @@ front_within bound before [] rest le all = le
 front_within bound before (item ∷ front) rest le all = front_within bound (item ∷ before) front rest all.0 all.1
 
 module _ (start : State) (first : start.step ≡ 0) (limit : ℕ) where
-  numbered : IsNumbered 0 (run_from limit start)
-  numbered = subst (λ n. IsNumbered n (run_from limit start)) first (run_from-IsNumbered limit start)
-
   pub each_front_fits : (front : List Record) → IsPrefix front (log (run_from limit start)) → first_fault start front ≡ None
   each_front_fits front is = front_fits start [] front is.rest (subst (FitsOn start []) (sym is.joined) (log_FitsOn limit start first))
 
   pub front_shown : (front : List Record) → IsPrefix front (log (run_from limit start)) → shown start front ≡ take (reach front) (run_from limit start).events
   front_shown front is =
+      let numbered = run_from-numbered limit start first in
       let within = front_within (run_from limit start).steps [] front is.rest (omega arith) (subst (AreWithin (run_from limit start).steps) (sym is.joined) (log_AreWithin 0 (run_from limit start) numbered)) in
       shown_back-run limit start (reverse_aux front []) first (each_front_fits front is) (omega (arith, within, numbered.steps))
 
@@ -48,5 +43,4 @@ module _ (start : State) (first : start.step ≡ 0) (limit : ℕ) where
   pub whole_shown : shown start (log (run_from limit start)) ≡ (run_from limit start).events
   whole_shown =
       let run = run_from limit start in
-      let whole : reach (log run) ≡ run.steps = reach_push (flat_map records_of run.events) (End run.steps run.cause) in
-      front_shown (log run) (whole_IsPrefix (log run)) ∙ take_all (reach (log run)) run.events (omega (arith, whole, numbered.steps))
+      front_shown (log run) (whole_IsPrefix (log run)) ∙ take_all (reach (log run)) run.events (omega (arith, reach_log run, (run_from-numbered limit start first).steps))

@@ -1,6 +1,6 @@
 -- Each row of the listing reads what its words spell.
-use Rattle.std.proofs.Common.{◌≡◌, ℕ, ◌+◌, ◌*◌, ◌/◌, ◌^◌, ◌<◌, ◌≤ℤ◌, ◌<ℤ◌, true, List, [], ◌∷◌, ◌++◌, pos, refl, subst, arith}
-use Rattle.std.specs.Prelude.{Some, IfSome}
+use Rattle.std.proofs.Common.{◌≡◌, ℕ, ◌+◌, ◌*◌, ◌/◌, ◌^◌, ◌<◌, ◌≤ℤ◌, ◌<ℤ◌, true, List, [], ◌∷◌, ◌++◌, pos, refl, arith}
+use Rattle.std.specs.Prelude.{IfSome}
 use Rattle.std.proofs.lemmas.Int.{ints}
 use Rattle.std.proofs.lemmas.Option.{IfSome_then}
 use Rattle.rv_decode.specs.declared.instruction.Instr.{Instr}
@@ -147,12 +147,6 @@ good_rows word fits =
 pub instruction-reads : (word : ℕ) → word < 2 ^ 32 → IfSome (instruction word) (Reading word)
 unfolding instruction
 instruction-reads word fits = Good-read word rows (good_rows word fits)
-
-pub spelled-valid : (word : ℕ) (i : Instr) → word < 2 ^ 32 → instruction word ≡ Some i → IsValid i
-spelled-valid word i fits e = (subst (λ o. IfSome o (Reading word)) e (instruction-reads word fits)).valid
-
-pub spelled-back : (word : ℕ) (i : Instr) → word < 2 ^ 32 → instruction word ≡ Some i → encoded i ≡ word
-spelled-back word i fits e = (subst (λ o. IfSome o (Reading word)) e (instruction-reads word fits)).back
 
 pub valid_reading : (word : ℕ) → word < 2 ^ 32 → IfSome (instruction word) IsValid
 valid_reading word fits = IfSome_then (instruction word) (instruction-reads word fits) (λ i r. r.valid)

@@ -266,9 +266,6 @@ encoded_auipc rd imm v =
     spells_auipc word f.opcode_is ∙ same2 (λ r z. Some (Auipc r z)) f.rd_is (ap (signed 32) n ∙ signed_bits_32 imm v.1)
 
 -- a number of fewer bits is one of 32
-wide_12 : (z : ℤ) → IsSigned 12 z → IsSigned 32 z
-wide_12 z fits = (omega (arith, ints, fits.0), omega (arith, ints, fits.1))
-
 wide_13 : (z : ℤ) → IsSigned 13 z → IsSigned 32 z
 wide_13 z fits = (omega (arith, ints, fits.0), omega (arith, ints, fits.1))
 
