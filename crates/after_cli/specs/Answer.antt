@@ -1,6 +1,6 @@
 -- What the top call answers, and the cause of each answer.
 use Rattle.std.specs.Prelude.{◌≡◌, ◌⊎◌, ◌≤◌, ℕ, ◌==◌, false, List, [], length, Option, Some, codes, if◌then◌else◌, IsSomeAnd}
-use Rattle.after_edge.specs.Fault.{Rose}
+use Rattle.after_edge.specs.Fault.{raised}
 use Rattle.after_edge.specs.Files.{Contents}
 use Rattle.after_edge.specs.Sink.{Adds, AddsPart}
 use Rattle.analysis_model.specs.Job.{status}
@@ -18,22 +18,23 @@ pub record IsRunOf (content : Option Contents) (words : List (List ℕ)) (file :
   pub named : NamesRun words image script
   pub inputs : AreInputs content image script file
 
--- 0, 1, 8, 11: a run was done. The bytes added to the output are the text of its job, no more and no less, the status is
--- the job's, and the closing holds the job's whole log, which was taken, each record once and in order.
-pub record IsDone {S : Type 0} (content : Option Contents) (words : List (List ℕ)) (holds : S → List ℕ → Type 0) (old new : S) (number : ℕ) (closing : Option Closing) : Type 0 where
+-- 0, 1, 8, 11: a run was done. The bytes added to the output are the text of its job, no more and no less, no put of it
+-- failed, the status is the job's, and the closing holds the job's whole log, which was taken, each record once and in order.
+pub record IsDone {S : Type 0} (content : Option Contents) (words : List (List ℕ)) (holds : S → List ℕ → Type 0) (faults : S → ℕ) (old new : S) (number : ℕ) (closing : Option Closing) : Type 0 where
   pub file : List ℕ
   pub run : IsRunOf content words file
   pub written : Adds holds old new (text (default_job file))
+  pub quiet : faults new ≡ faults old
   pub status_is : number ≡ status (default_job file)
   pub closing_is : IsSomeAnd closing (IsWholeRun (default_job file))
 
--- 6: a put of the output failed, and some front of the job's text was added; the closing holds a front of the job's log,
+-- 6: one put of the output failed, and some front of the job's text was added; the closing holds a front of the job's log,
 -- which was taken, each record once and in order, and the whole log where the report had begun
 pub record OutputHasFailed {S : Type 0} (content : Option Contents) (words : List (List ℕ)) (holds : S → List ℕ → Type 0) (faults : S → ℕ) (old new : S) (closing : Option Closing) : Type 0 where
   pub file : List ℕ
   pub run : IsRunOf content words file
   pub written : AddsPart holds old new (text (default_job file))
-  pub rose : Rose (faults old) (faults new)
+  pub counted : faults new ≡ raised (faults old)
   pub closing_is : IsSomeAnd closing (IsCutRun holds old new (default_job file))
 
 -- 5: the files of a run failed, or they tell that one is absent
@@ -76,7 +77,8 @@ line_of number =
 
 -- the line was added, or the sink failed and some front of it was added
 abbrev pub TellsLine : {S : Type 0} → (S → List ℕ → Type 0) → (S → ℕ) → S → S → List ℕ → Type 0
-TellsLine holds faults old new told = Adds holds old new told ⊎ (Rose (faults old) (faults new) × AddsPart holds old new told)
+TellsLine holds faults old new told =
+    (Adds holds old new told × (faults new ≡ faults old)) ⊎ (AddsPart holds old new told × (faults new ≡ raised (faults old)))
 
 -- the files tell the content of a run that is built, whose guest is this file
 pub record IsToldRun (content : Option Contents) (words : List (List ℕ)) (file : List ℕ) : Type 0 where

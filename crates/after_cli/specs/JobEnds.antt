@@ -1,7 +1,7 @@
 -- What a run of a job leaves, and what each end of it means.
 use Rattle.std.specs.Prelude.{◌≡◌, ◌⊎◌, ℕ, List, ◌++◌, map, Some, option_map}
 use Rattle.list_laws.specs.Prefix.{IsPrefix}
-use Rattle.after_edge.specs.Fault.{Rose}
+use Rattle.after_edge.specs.Fault.{raised}
 use Rattle.after_edge.specs.Sink.{Adds, AddsPart}
 use Rattle.analysis_model.specs.Job.{Job, released, status}
 use Rattle.analysis_model.specs.Report.{facts, report, text}
@@ -43,20 +43,21 @@ pub record IsCutInReport {S : Type 0} (holds : S → List ℕ → Type 0) (old n
 abbrev pub IsCutRun : {S : Type 0} → (S → List ℕ → Type 0) → S → S → Job → Closing → Type 0
 IsCutRun holds old new job closing = IsCutInOutput holds old new job closing ⊎ IsCutInReport holds old new job closing
 
--- the whole text of the job was written, and the status is the job's
-pub record IsDoneJob {S : Type 0} (holds : S → List ℕ → Type 0) (old new : S) (job : Job) (number : ℕ) (closing : Closing) : Type 0 where
+-- the whole text of the job was written, no put failed, and the status is the job's
+pub record IsDoneJob {S : Type 0} (holds : S → List ℕ → Type 0) (faults : S → ℕ) (old new : S) (job : Job) (number : ℕ) (closing : Closing) : Type 0 where
   pub written : Adds holds old new (text job)
+  pub quiet : faults new ≡ faults old
   pub status_is : number ≡ status job
   pub closing_is : IsWholeRun job closing
 
--- a put failed, as the count of the sink shows, and some front of the text was written
+-- one put failed, which the count of the sink shows, and some front of the text was written
 pub record HasFailedOutput {S : Type 0} (holds : S → List ℕ → Type 0) (faults : S → ℕ) (old new : S) (job : Job) (closing : Closing) : Type 0 where
   pub written : AddsPart holds old new (text job)
-  pub rose : Rose (faults old) (faults new)
+  pub counted : faults new ≡ raised (faults old)
   pub closing_is : IsCutRun holds old new job closing
 
 -- want of memory comes before anything is written, and has no cause
 abbrev pub JobEnds : {S : Type 0} → (S → List ℕ → Type 0) → (S → ℕ) → S → S → Job → JobEnd → Type 0
-JobEnds holds faults old new job (Done number closing) = IsDoneJob holds old new job number closing
+JobEnds holds faults old new job (Done number closing) = IsDoneJob holds faults old new job number closing
 JobEnds holds faults old new job (OutputFailed closing) = HasFailedOutput holds faults old new job closing
 JobEnds holds faults old new job NoMemory = new ≡ old

@@ -25,13 +25,13 @@ closing_in FilesFailed = None
 closing_in NoMemory = None
 closing_in NotBuilt = None
 
--- what each answer says of the words, the files and the output
+-- what each answer says of the words, the files and the output, and of the count of the files
 abbrev pub Means : {S : Type 0} → Option Contents → List (List ℕ) → ℕ → ℕ → (S → List ℕ → Type 0) → (S → ℕ) → S → S → Answer → Type 0
-Means content words before now holds faults old new (Done status closing) = IsDone content words holds old new status (Some closing)
+Means content words before now holds faults old new (Done status closing) = IsDone content words holds faults old new status (Some closing) × (now ≡ before)
 Means content words before now holds faults old new FilesFailed = FilesHaveFailed content words before now × (new ≡ old)
-Means content words before now holds faults old new (OutputFailed closing) = OutputHasFailed content words holds faults old new (Some closing)
-Means content words before now holds faults old new NoMemory = new ≡ old
-Means content words before now holds faults old new NotBuilt = IsNotBuilt content words × (new ≡ old)
+Means content words before now holds faults old new (OutputFailed closing) = OutputHasFailed content words holds faults old new (Some closing) × (now ≡ before)
+Means content words before now holds faults old new NoMemory = (new ≡ old) × (now ≡ before)
+Means content words before now holds faults old new NotBuilt = IsNotBuilt content words × (new ≡ old) × (now ≡ before)
 
 -- the answer that a job's end gives
 abbrev pub answer_of : JobEnd → Answer

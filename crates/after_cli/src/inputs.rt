@@ -1,5 +1,5 @@
 //! The files of a run, read within their limits.
-ghost use Rattle.std.specs.Prelude.{◌≡◌, ◌≤◌, IfOk, IfErr};
+ghost use Rattle.std.specs.Prelude.{◌≡◌, IfOk, IfErr, OnOk};
 ghost use Rattle.after_cli.specs.Inputs.{AreInputs, HasRefusalCause, is_elf, refusal_of};
 
 use after_edge::{FileFault, Files, read_all};
@@ -51,7 +51,7 @@ pub fn read_inputs<F: Files>(
     ensures ok { IfOk result (λ file. AreInputs (F.content files.old) image.now script.now file.items) }
     ensures cause { IfErr result (HasRefusalCause (F.content files.old) image.now script.now (F.faults files.old) (F.faults files.new)) }
     ensures same { F.content files.new ≡ F.content files.old }
-    ensures later { F.faults files.old ≤ F.faults files.new }
+    ensures quiet { OnOk result (F.faults files.new ≡ F.faults files.old) }
 {
     let file = match read_all(alloc, files, image, IMAGE_MAX) {
         Ok(file) => file,

@@ -1,6 +1,6 @@
 //! A job from its opening to its report.
-ghost use Rattle.std.specs.Prelude.{◌≡◌, ◌*◌, ◌≤◌, ◌++◌, List, is_some, length, IfOk, OnOk, OnErr};
-ghost use Rattle.after_edge.specs.Fault.{Rose};
+ghost use Rattle.std.specs.Prelude.{is_err, ◌≡◌, ◌*◌, ◌≤◌, ◌++◌, List, is_some, length, IfOk, OnOk, OnErr};
+ghost use Rattle.after_edge.specs.Fault.{Counted};
 ghost use Rattle.after_edge.specs.Sink.{Adds, AddsPart};
 ghost use Rattle.run_events.specs.declared.event.Event.{Event};
 ghost use Rattle.machine_model.specs.Image.{flat_image};
@@ -58,8 +58,7 @@ fn open(alloc: Global, file: Vec<u8>, ram_kib: u32, limit: u32) -> Result<Parts,
 fn report<O: Sink>(facts: &RunFacts, analysis: &AnyAnalysis, out: &mut O) -> Result<(), Failed>
     ensures ok { OnOk result ((h : List Event) → HasSeen analysis.now h → Adds O.holds out.old out.new (head_text (facts_of facts.now) ++ part_text (code_made_of (made_of analysis.now)) h (kind_made_of (made_of analysis.now)))) }
     ensures err { OnErr result ((h : List Event) → HasSeen analysis.now h → AddsPart O.holds out.old out.new (head_text (facts_of facts.now) ++ part_text (code_made_of (made_of analysis.now)) h (kind_made_of (made_of analysis.now)))) }
-    ensures cause { OnErr result (Rose (O.faults out.old) (O.faults out.new)) }
-    ensures later { O.faults out.old ≤ O.faults out.new }
+    ensures counted { Counted (is_err result) (O.faults out.old) (O.faults out.new) }
 {
     match report_head(facts, out) {
         Ok(()) => {}
@@ -89,8 +88,7 @@ fn tell<O: Sink>(closing: &Closing, out: &mut O) -> Result<u8, Failed>
     ensures status { IfOk result (λ number. (c : Course) → IsCourse c → ClosesWhole c closing.now → number ≡ status_at c) }
     ensures ok { OnOk result ((c : Course) → IsCourse c → ClosesWhole c closing.now → Adds O.holds out.old out.new (report_text c)) }
     ensures err { OnErr result ((c : Course) → IsCourse c → ClosesWhole c closing.now → AddsPart O.holds out.old out.new (report_text c)) }
-    ensures cause { OnErr result (Rose (O.faults out.old) (O.faults out.new)) }
-    ensures later { O.faults out.old ≤ O.faults out.new }
+    ensures counted { Counted (is_err result) (O.faults out.old) (O.faults out.new) }
 {
     let Some(facts) = closing.facts() else {
         unreachable!()
@@ -115,8 +113,7 @@ pub fn run_job<O: Sink>(
     requires most { ram_kib ≤ 16384 }
     requires fits { length file.items ≤ 1024 * ram_kib }
     requires steps { limit ≤ 1000000000 }
-    ensures end { JobEnds O.holds O.faults out.old out.new (cover_job file.items ram_kib limit) result }
-    ensures later { O.faults out.old ≤ O.faults out.new }
+    ensures { JobEnds O.holds O.faults out.old out.new (cover_job file.items ram_kib limit) result }
 {
     let mut parts = match open(alloc, file, ram_kib, limit) {
         Ok(parts) => parts,

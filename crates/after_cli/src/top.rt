@@ -88,8 +88,6 @@ fn answer_words<F: Files, O: Sink>(
 ) -> Answer
     ensures means { Means (F.content files.old) (map string_bytes words.now) (F.faults files.old) (F.faults files.new) O.holds O.faults out.old out.new result }
     ensures same { F.content files.new ≡ F.content files.old }
-    ensures files_later { F.faults files.old ≤ F.faults files.new }
-    ensures out_later { O.faults out.old ≤ O.faults out.new }
 {
     let Some(run) = run_words(words) else {
         return Answer::NotBuilt;
@@ -159,7 +157,7 @@ pub fn aftersight_plain<F: Files, O: Sink, E: Sink>(
 
     // The run was done: what was added to the output is the text of its job, the status is the job's, and the closing
     // holds the job's log, which the replica has taken, each record once and in order.
-    ensures done { IsOfDone result.status → IsDone (F.content files.old) (map string_bytes words.now) O.holds out.old out.new result.status result.closing }
+    ensures done { IsOfDone result.status → IsDone (F.content files.old) (map string_bytes words.now) O.holds O.faults out.old out.new result.status result.closing }
 
     // Each other status has its cause.
     ensures output_failed { result.status ≡ 6 → OutputHasFailed (F.content files.old) (map string_bytes words.now) O.holds O.faults out.old out.new result.closing }
@@ -177,6 +175,7 @@ pub fn aftersight_plain<F: Files, O: Sink, E: Sink>(
     ensures told { TellsLine E.holds E.faults err.old err.new (line_of result.status) }
     ensures quiet { IsOfDone result.status → err.new ≡ err.old }
     ensures files { F.content files.new ≡ F.content files.old }
+    ensures files_quiet { ¬ (result.status ≡ 5) → F.faults files.new ≡ F.faults files.old }
 {
     let answer = answer_words(alloc, words, files, out);
     let status = answer.status();

@@ -1,7 +1,7 @@
--- Counts of faults over several calls.
-use Rattle.std.proofs.Common.{ℕ, ◌≤◌, arith}
-use Rattle.after_edge.specs.Fault.{Rose}
+-- Counts of faults.
+use Rattle.std.proofs.Common.{◌≡◌, ℕ, ◌≤◌, arith}
+use Rattle.after_edge.specs.Fault.{Rose, raised}
 
--- it had not fallen before the call in which it rose
-pub Rose-before : (first before now : ℕ) → first ≤ before → Rose before now → Rose first now
-Rose-before first before now e rose = omega arith
+-- a count that was raised rose
+pub Rose-raised : (before now : ℕ) → now ≡ raised before → Rose before now
+Rose-raised before now is = omega (arith, is)

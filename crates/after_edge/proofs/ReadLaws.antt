@@ -3,21 +3,19 @@ use Rattle.std.proofs.Common.{◌≡◌, ℕ, ◌+◌, ◌-◌, ◌<◌, ◌≤�
 use Rattle.std.proofs.lemmas.List.{nil_from_length, take-append-drop}
 use Rattle.std.proofs.lemmas.List.Prefix.{front_rest}
 use Rattle.list_laws.specs.Prefix.{IsPrefix}
-use Rattle.list_laws.proofs.PrefixLaws.{IsPrefix-length}
 use Rattle.after_edge.specs.Files.{Contents, IfTold, Reads, HasAbsentCause}
 use Rattle.after_edge.specs.Reading.{IsLonger}
-use Rattle.after_edge.proofs.FaultLaws.{Rose-before}
+use Rattle.after_edge.specs.Fault.{raised}
 
 -- these bytes begin the named file; a name without one has only the empty beginning
 pub record BeginsFile (files : Contents) (name bytes : List ℕ) : Type 0 where
   pub front : IsPrefix bytes (unwrap_or (files name) [])
 
--- how far a file was read: a front of it, within the limit; until the first piece came the count stood still
+-- how far a file was read: a front of it, within the limit, and no call has failed
 pub record HasRead (content : Option Contents) (name bytes : List ℕ) (max before now : ℕ) : Type 0 where
   pub begins : IfTold content (λ files. BeginsFile files name bytes)
   pub within : length bytes ≤ max
-  pub untouched : length bytes ≡ 0 → now ≡ before
-  pub later : before ≤ now
+  pub quiet : now ≡ before
 
 -- what begins the file that the name has
 front_of_file : (files : Contents) (name bytes whole : List ℕ) → files name ≡ Some whole → BeginsFile files name bytes → IsPrefix bytes whole
@@ -52,16 +50,11 @@ Reads-longer files name piece at count max read within more =
     let inside = read.within in
     record { bytes = read.bytes; file = read.file; longer = omega arith }
 
--- a file that is absent now was so from the start, and nothing was read
+-- a file that is absent now was so from the start
 absent_from_start : (content : Option Contents) (name bytes : List ℕ) (max before middle now : ℕ) → HasRead content name bytes max before middle → HasAbsentCause content name middle now → HasAbsentCause content name before now
 absent_from_start content name bytes max before middle now read cause = elim cause [
-  | inl absent ↦
-      let begins = (read.begins absent.0.files absent.0.told).front in
-      let P : Option (List ℕ) → Type 0 = λ o. IsPrefix bytes (unwrap_or o []) in
-      let p : IsPrefix bytes [] = subst P absent.0.none begins in
-      let none : length bytes ≡ 0 = omega (arith, IsPrefix-length bytes [] p) in
-      inl (absent.0, absent.1 ∙ read.untouched none)
-  | inr untold ↦ inr (untold.0, Rose-before before middle now read.later untold.1)
+  | inl absent ↦ inl (absent.0, absent.1 ∙ read.quiet)
+  | inr untold ↦ inr (untold.0, untold.1 ∙ ap raised read.quiet)
 ]
 
 module _ (content later : Option Contents) (name bytes : List ℕ) (max before middle : ℕ) (read : HasRead content name bytes max before middle) (same : later ≡ content) where
@@ -72,19 +65,17 @@ module _ (content later : Option Contents) (name bytes : List ℕ) (max before m
       Reads-end files name bytes piece (read.begins files told) (subst (λ (c : ℕ). P (length bytes) c) none (subst (λ (a : ℕ). P a count) here (reads files (same ∙ told))))
 
   -- the read that gave a piece
-  pub HasRead-next : (piece all : List ℕ) (at count now : ℕ) → at ≡ length bytes → all ≡ bytes ++ piece → length piece ≡ count → 0 < count → count ≤ max - at → middle ≤ now
+  pub HasRead-next : (piece all : List ℕ) (at count now : ℕ) → at ≡ length bytes → all ≡ bytes ++ piece → length piece ≡ count → count ≤ max - at → now ≡ middle
       → IfTold later (λ files. Reads files name at count piece) → HasRead content name all max before now
-  HasRead-next piece all at count now here joined long some fits risen reads =
+  HasRead-next piece all at count now here joined long fits stays reads =
       let sum : length all ≡ length bytes + length piece = ap length joined ∙ length-append bytes piece in
       let within = read.within in
-      let later = read.later in
       record {
         begins = λ files told.
             let next = Reads-next files name bytes piece count (read.begins files told) (subst (λ (a : ℕ). Reads files name a count piece) here (reads files (same ∙ told))) in
             subst (λ (l : List ℕ). BeginsFile files name l) (sym joined) next;
         within = omega arith;
-        untouched = λ none. absurd (omega arith);
-        later = omega arith;
+        quiet = stays ∙ read.quiet;
       }
 
   -- the read that gave more than is left to take

@@ -1,6 +1,6 @@
 //! The trait of files, and why a read gives nothing.
-ghost use Rattle.std.specs.Prelude.{◌≡◌, ◌<◌, ◌≤◌, List, ℕ, Option, length, take, IfOk, OnOk, OnErr};
-ghost use Rattle.after_edge.specs.Fault.{Rose};
+ghost use Rattle.std.specs.Prelude.{◌≡◌, ◌<◌, ◌≤◌, List, ℕ, Option, length, take, is_err, IfOk, OnOk, OnErr};
+ghost use Rattle.after_edge.specs.Fault.{Counted};
 ghost use Rattle.after_edge.specs.Files.{Contents, IfTold, Reads, HasReadCause, Changes, IsBegun, MayBeBegun, IsAppended, MayBeAppended};
 
 use crate::Failed;
@@ -19,7 +19,8 @@ pub trait Files {
     /// What they contain: from names to bytes, where they tell it. The host's files do not.
     ghost content: { Self → Option Contents };
 
-    /// How often they have failed. The count never falls, and stands still at the end of its type.
+    /// How many of their calls have failed; where content is told, a read of an absent file is none of them. The count
+    /// stands still at the end of its type.
     ghost faults: { Self → ℕ };
 
     /// Reads from byte `at` of the file into the buffer, and answers the number of bytes read.
@@ -29,21 +30,18 @@ pub trait Files {
         ensures within { IfOk result (λ count. count ≤ length buf.new) }
         ensures read { IfOk result (λ count. IfTold (content self.old) (λ files. Reads files name.now at count (take count buf.new))) }
         ensures cause { HasReadCause (content self.old) name.now (faults self.old) (faults self.new) result }
-        ensures same { content self.new ≡ content self.old }
-        ensures later { faults self.old ≤ faults self.new };
+        ensures same { content self.new ≡ content self.old };
 
     /// Makes the file empty, and makes one where there is none. Where it fails, the file is as before or empty.
     fn begin(&mut self, name: &str) -> Result<(), Failed>
         ensures ok { OnOk result (Changes (content self.old) (content self.new) name.now IsBegun) }
         ensures err { OnErr result (Changes (content self.old) (content self.new) name.now MayBeBegun) }
-        ensures cause { OnErr result (Rose (faults self.old) (faults self.new)) }
-        ensures later { faults self.old ≤ faults self.new };
+        ensures counted { Counted (is_err result) (faults self.old) (faults self.new) };
 
     /// Adds the piece at the file's end, and first makes a file that is absent.
     /// Where it fails, some front of the piece was added.
     fn append(&mut self, name: &str, piece: &[u8]) -> Result<(), Failed>
         ensures ok { OnOk result (Changes (content self.old) (content self.new) name.now (IsAppended piece.now)) }
         ensures err { OnErr result (Changes (content self.old) (content self.new) name.now (MayBeAppended piece.now)) }
-        ensures cause { OnErr result (Rose (faults self.old) (faults self.new)) }
-        ensures later { faults self.old ≤ faults self.new };
+        ensures counted { Counted (is_err result) (faults self.old) (faults self.new) };
 }

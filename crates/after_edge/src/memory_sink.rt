@@ -1,6 +1,6 @@
 //! A sink in memory, with failures that are planned.
 ghost use Rattle.std.specs.Prelude.{◌≡◌, ◌≤◌, ℕ, List, length, take, min, unwrap_or, vec_len, vec_capacity, is_err, IfOk, OnOk, OnErr};
-ghost use Rattle.after_edge.specs.Fault.{Rose, raised};
+ghost use Rattle.after_edge.specs.Fault.{Counted, raised};
 ghost use Rattle.after_edge.specs.Sink.{Adds, AddsPart};
 ghost use Rattle.after_edge.specs.MemorySink.{SinkState, HoldsBytes, empty_sink, planned_limit, part_taken, put_fails, sink_after};
 
@@ -85,8 +85,7 @@ impl Sink for MemorySink {
     fn put(&mut self, piece: &[u8]) -> Result<(), Failed>
         ensures ok { OnOk result (Adds HoldsBytes self.old self.new piece.now) }
         ensures err { OnErr result (AddsPart HoldsBytes self.old self.new piece.now) }
-        ensures cause { OnErr result (Rose self.old.faults self.new.faults) }
-        ensures later { self.old.faults ≤ self.new.faults }
+        ensures counted { Counted (is_err result) self.old.faults self.new.faults }
         ensures fails { is_err result ≡ put_fails self.old piece.now }
         ensures after { self.new ≡ sink_after self.old piece.now }
     {

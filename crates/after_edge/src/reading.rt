@@ -37,7 +37,6 @@ pub fn read_all<F: Files>(
     ensures within { IfOk result (λ bytes. vec_len bytes ≤ max) }
     ensures cause { HasFileCause (F.content files.old) name.now max (F.faults files.old) (F.faults files.new) result }
     ensures same { F.content files.new ≡ F.content files.old }
-    ensures later { F.faults files.old ≤ F.faults files.new }
 {
     let mut buffer = [0u8; CHUNK];
     read_through(alloc, files, name, max, &mut buffer)
@@ -56,7 +55,6 @@ fn read_through<F: Files>(
     ensures within { IfOk result (λ bytes. vec_len bytes ≤ max) }
     ensures cause { HasFileCause (F.content files.old) name.now max (F.faults files.old) (F.faults files.new) result }
     ensures same { F.content files.new ≡ F.content files.old }
-    ensures later { F.faults files.old ≤ F.faults files.new }
 {
     let mut bytes = Vec::new(alloc);
     'pieces: loop {

@@ -1,6 +1,6 @@
 //! The trait of sinks.
-ghost use Rattle.std.specs.Prelude.{◌≤◌, List, ℕ, OnOk, OnErr};
-ghost use Rattle.after_edge.specs.Fault.{Rose};
+ghost use Rattle.std.specs.Prelude.{List, ℕ, is_err, OnOk, OnErr};
+ghost use Rattle.after_edge.specs.Fault.{Counted};
 ghost use Rattle.after_edge.specs.Sink.{Adds, AddsPart};
 
 /// The outside failed.
@@ -12,13 +12,12 @@ pub trait Sink {
     /// It holds these bytes. One that tells nothing of its content holds every list.
     ghost holds: { Self → List ℕ → Type 0 };
 
-    /// How often it has failed. The count never falls, and stands still at the end of its type.
+    /// How many of its puts have failed. The count stands still at the end of its type.
     ghost faults: { Self → ℕ };
 
     /// Adds the piece. Where it fails, some front of the piece was added.
     fn put(&mut self, piece: &[u8]) -> Result<(), Failed>
         ensures ok { OnOk result (Adds holds self.old self.new piece.now) }
         ensures err { OnErr result (AddsPart holds self.old self.new piece.now) }
-        ensures cause { OnErr result (Rose (faults self.old) (faults self.new)) }
-        ensures later { faults self.old ≤ faults self.new };
+        ensures counted { Counted (is_err result) (faults self.old) (faults self.new) };
 }

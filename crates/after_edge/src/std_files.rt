@@ -3,7 +3,7 @@ ghost use Rattle.std.specs.Prelude.{◌≡◌, ◌<◌, ◌≤◌, ◌↔◌, �
 ghost use Rattle.std.specs.declared.io.ErrorKind.TheVariants.{NotFound};
 ghost use Rattle.std.specs.IoError.{error_kind};
 ghost use Rattle.after_edge.specs.declared.files.ReadFault.TheVariants.{Absent};
-ghost use Rattle.after_edge.specs.Fault.{Rose, raised};
+ghost use Rattle.after_edge.specs.Fault.{Counted};
 ghost use Rattle.after_edge.specs.Files.{IfTold, untold, Reads, HasReadCause, Changes, IsBegun, MayBeBegun, IsAppended, MayBeAppended};
 
 use crate::{Failed, Files, ReadFault};
@@ -78,8 +78,6 @@ impl<'a, R: std::rt::Files> Files for StdFiles<'a, R> {
         ensures read { IfOk result (λ count. IfTold untold (λ files. Reads files name.now at count (take count buf.new))) }
         ensures cause { HasReadCause untold name.now self.old.faults self.new.faults result }
         ensures same { untold ≡ untold }
-        ensures later { self.old.faults ≤ self.new.faults }
-        ensures counted { self.new.faults ≡ (if is_err result then raised self.old.faults else self.old.faults) }
     {
         match read_from(self.rt, name, at, buf) {
             Ok(count) => Ok(count),
@@ -94,9 +92,7 @@ impl<'a, R: std::rt::Files> Files for StdFiles<'a, R> {
     fn begin(&mut self, name: &str) -> Result<(), Failed>
         ensures ok { OnOk result (Changes untold untold name.now IsBegun) }
         ensures err { OnErr result (Changes untold untold name.now MayBeBegun) }
-        ensures cause { OnErr result (Rose self.old.faults self.new.faults) }
-        ensures later { self.old.faults ≤ self.new.faults }
-        ensures counted { self.new.faults ≡ (if is_err result then raised self.old.faults else self.old.faults) }
+        ensures counted { Counted (is_err result) self.old.faults self.new.faults }
     {
         match File::create(self.rt, name) {
             Ok(_) => Ok(()),
@@ -112,9 +108,7 @@ impl<'a, R: std::rt::Files> Files for StdFiles<'a, R> {
     fn append(&mut self, name: &str, piece: &[u8]) -> Result<(), Failed>
         ensures ok { OnOk result (Changes untold untold name.now (IsAppended piece.now)) }
         ensures err { OnErr result (Changes untold untold name.now (MayBeAppended piece.now)) }
-        ensures cause { OnErr result (Rose self.old.faults self.new.faults) }
-        ensures later { self.old.faults ≤ self.new.faults }
-        ensures counted { self.new.faults ≡ (if is_err result then raised self.old.faults else self.old.faults) }
+        ensures counted { Counted (is_err result) self.old.faults self.new.faults }
     {
         match write_at_end(self.rt, name, piece) {
             Ok(()) => Ok(()),

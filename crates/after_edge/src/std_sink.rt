@@ -1,7 +1,7 @@
 //! The host's streams.
-ghost use Rattle.std.specs.Prelude.{◌≡◌, ◌≤◌, ℕ, List, if◌then◌else◌, is_err, OnOk, OnErr};
+ghost use Rattle.std.specs.Prelude.{◌≡◌, ℕ, List, is_err, OnOk, OnErr};
 ghost use Rattle.std.specs.Io.KnownBytes.{Appends};
-ghost use Rattle.after_edge.specs.Fault.{Rose, raised};
+ghost use Rattle.after_edge.specs.Fault.{Counted};
 ghost use Rattle.after_edge.specs.Sink.{Adds, AddsPart, HoldsAny};
 
 use crate::{Failed, Sink};
@@ -42,10 +42,8 @@ impl<W: Write + Drop> Sink for StdSink<W> {
     fn put(&mut self, piece: &[u8]) -> Result<(), Failed>
         ensures ok { OnOk result (Adds HoldsAny self.old self.new piece.now) }
         ensures err { OnErr result (AddsPart HoldsAny self.old self.new piece.now) }
-        ensures cause { OnErr result (Rose self.old.faults self.new.faults) }
-        ensures later { self.old.faults ≤ self.new.faults }
+        ensures counted { Counted (is_err result) self.old.faults self.new.faults }
         ensures written { OnOk result (Appends (W.contents self.old.writer) (W.contents self.new.writer) piece.now) }
-        ensures counted { self.new.faults ≡ (if is_err result then raised self.old.faults else self.old.faults) }
     {
         match write_through(&mut self.writer, piece) {
             Ok(()) => Ok(()),

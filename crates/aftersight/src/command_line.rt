@@ -1,5 +1,5 @@
 //! The words of the command line, and the texts that `main` answers by itself.
-ghost use Rattle.std.specs.Prelude.{◌≡◌, ◌⊎◌, ◌↔◌, IfOk, IfErr, drop, map, string_bytes};
+ghost use Rattle.std.specs.Prelude.{◌≡◌, ◌⊎◌, ◌↔◌, IfOk, IfErr, MatchResult, drop, map, string_bytes};
 ghost use Rattle.std.specs.declared.io.ErrorKind.TheVariants.{OutOfMemory};
 ghost use Rattle.std.specs.IoError.{error_kind};
 ghost use Rattle.std.specs.Option.{option_map};
@@ -16,11 +16,20 @@ use std::{env, io};
 pub fn read_words<R: Env + AllocGlobal>(rt: &R) -> Result<Vec<String>, u8>
     ensures { IfErr result (λ status. (status ≡ 9) ⊎ (status ≡ 10)) }
 {
-    let all = match env::args(rt) {
+    words_of(rt.alloc(), env::args(rt))
+}
+
+// The words behind the first one that the host gives, or the status where it gives none or memory is wanting.
+fn words_of(alloc: Global, given: io::Result<Args>) -> Result<Vec<String>, u8>
+    ensures words { IfOk given (λ all. IfOk result (λ words. words.items ≡ drop 1 (into_iter_items all))) }
+    ensures memory { IfOk given (λ all. IfErr result (λ status. status ≡ 9)) }
+    ensures failed { IfErr given (λ error. MatchResult result (λ words. ⊥) (λ status. ((status ≡ 9) ⊎ (status ≡ 10)) × ((status ≡ 9) ↔ (error_kind error ≡ OutOfMemory)))) }
+{
+    let all = match given {
         Ok(all) => all,
         Err(error) => return Err(status_of(&error)),
     };
-    match behind_first(rt.alloc(), all) {
+    match behind_first(alloc, all) {
         Ok(words) => Ok(words),
         Err(_) => Err(9),
     }

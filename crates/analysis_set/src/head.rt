@@ -1,6 +1,6 @@
 //! The first six lines of the report.
-ghost use Rattle.std.specs.Prelude.{◌≤◌, OnOk, OnErr};
-ghost use Rattle.after_edge.specs.Fault.{Rose};
+ghost use Rattle.std.specs.Prelude.{is_err, ◌≤◌, OnOk, OnErr};
+ghost use Rattle.after_edge.specs.Fault.{Counted};
 ghost use Rattle.after_edge.specs.Sink.{Adds, AddsPart};
 ghost use Rattle.analysis_model.specs.Report.{head_text};
 ghost use Rattle.analysis_set.specs.Head.{facts_of};
@@ -31,8 +31,7 @@ pub struct RunFacts {
 pub fn report_head<O: Sink>(facts: &RunFacts, out: &mut O) -> Result<(), Failed>
     ensures ok { OnOk result (Adds O.holds out.old out.new (head_text (facts_of facts.now))) }
     ensures err { OnErr result (AddsPart O.holds out.old out.new (head_text (facts_of facts.now))) }
-    ensures cause { OnErr result (Rose (O.faults out.old) (O.faults out.new)) }
-    ensures later { O.faults out.old ≤ O.faults out.new }
+    ensures counted { Counted (is_err result) (O.faults out.old) (O.faults out.new) }
 {
     let all = [
         Line::new().ended(),

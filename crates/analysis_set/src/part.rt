@@ -1,8 +1,8 @@
 //! The lines of one analysis.
-ghost use Rattle.std.specs.Prelude.{◌≡◌, ◌<◌, ◌≤◌, List, slice_index_or, length, OnOk, OnErr, take};
+ghost use Rattle.std.specs.Prelude.{is_err, ◌≡◌, ◌<◌, ◌≤◌, List, slice_index_or, length, OnOk, OnErr, take};
 ghost use Rattle.std.specs.List.{flat_map};
 ghost use Rattle.run_events.specs.declared.event.Event.{Event};
-ghost use Rattle.after_edge.specs.Fault.{Rose};
+ghost use Rattle.after_edge.specs.Fault.{Counted};
 ghost use Rattle.after_edge.specs.Sink.{Adds, AddsPart};
 ghost use Rattle.analysis_model.specs.Made.{kind_made_of, code_made_of};
 ghost use Rattle.analysis_model.specs.Report.{cover_text, part_text, range_line};
@@ -21,8 +21,7 @@ use run_events::Kind;
 pub fn report_part<O: Sink>(analysis: &AnyAnalysis, out: &mut O) -> Result<(), Failed>
     ensures ok { OnOk result ((h : List Event) → HasSeen analysis.now h → Adds O.holds out.old out.new (part_text (code_made_of (made_of analysis.now)) h (kind_made_of (made_of analysis.now)))) }
     ensures err { OnErr result ((h : List Event) → HasSeen analysis.now h → AddsPart O.holds out.old out.new (part_text (code_made_of (made_of analysis.now)) h (kind_made_of (made_of analysis.now)))) }
-    ensures cause { OnErr result (Rose (O.faults out.old) (O.faults out.new)) }
-    ensures later { O.faults out.old ≤ O.faults out.new }
+    ensures counted { Counted (is_err result) (O.faults out.old) (O.faults out.new) }
 {
     match analysis {
         AnyAnalysis::Cover(coverage) => cover_part(coverage, out),
@@ -33,8 +32,7 @@ pub fn report_part<O: Sink>(analysis: &AnyAnalysis, out: &mut O) -> Result<(), F
 fn cover_part<O: Sink>(coverage: &Coverage, out: &mut O) -> Result<(), Failed>
     ensures ok { OnOk result (Adds O.holds out.old out.new (cover_text (summary_now coverage.now))) }
     ensures err { OnErr result (AddsPart O.holds out.old out.new (cover_text (summary_now coverage.now))) }
-    ensures cause { OnErr result (Rose (O.faults out.old) (O.faults out.new)) }
-    ensures later { O.faults out.old ≤ O.faults out.new }
+    ensures counted { Counted (is_err result) (O.faults out.old) (O.faults out.new) }
 {
     match put_totals(coverage, out) {
         Ok(()) => {}
@@ -51,8 +49,7 @@ fn cover_part<O: Sink>(coverage: &Coverage, out: &mut O) -> Result<(), Failed>
 fn put_totals<O: Sink>(coverage: &Coverage, out: &mut O) -> Result<(), Failed>
     ensures ok { OnOk result (Adds O.holds out.old out.new (totals_text (summary_now coverage.now))) }
     ensures err { OnErr result (AddsPart O.holds out.old out.new (totals_text (summary_now coverage.now))) }
-    ensures cause { OnErr result (Rose (O.faults out.old) (O.faults out.new)) }
-    ensures later { O.faults out.old ≤ O.faults out.new }
+    ensures counted { Counted (is_err result) (O.faults out.old) (O.faults out.new) }
 {
     let both = [
         lines::findings(Kind::Cover, coverage.count(), coverage.first()),
@@ -65,8 +62,7 @@ fn put_totals<O: Sink>(coverage: &Coverage, out: &mut O) -> Result<(), Failed>
 fn put_ranges<O: Sink>(coverage: &Coverage, out: &mut O) -> Result<(), Failed>
     ensures ok { OnOk result (Adds O.holds out.old out.new (flat_map range_line (take 64 (summary_now coverage.now).ranges))) }
     ensures err { OnErr result (AddsPart O.holds out.old out.new (flat_map range_line (take 64 (summary_now coverage.now).ranges))) }
-    ensures cause { OnErr result (Rose (O.faults out.old) (O.faults out.new)) }
-    ensures later { O.faults out.old ≤ O.faults out.new }
+    ensures counted { Counted (is_err result) (O.faults out.old) (O.faults out.new) }
 {
     for index in 0..coverage.ranges().min(64) {
         match out.put(shown_range(coverage, index).as_bytes()) {

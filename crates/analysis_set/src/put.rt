@@ -1,7 +1,7 @@
 //! One line after another, into a sink.
-ghost use Rattle.std.specs.Prelude.{◌≤◌, OnOk, OnErr};
+ghost use Rattle.std.specs.Prelude.{is_err, ◌≤◌, OnOk, OnErr};
 ghost use Rattle.std.specs.List.{concat, flat_map};
-ghost use Rattle.after_edge.specs.Fault.{Rose};
+ghost use Rattle.after_edge.specs.Fault.{Counted};
 ghost use Rattle.after_edge.specs.Sink.{Adds, AddsPart};
 ghost use Rattle.analysis_model.specs.Report.{finding_line};
 
@@ -14,8 +14,7 @@ use run_events::{Finding, Kind};
 pub(crate) fn put_lines<O: Sink>(all: &[Line], out: &mut O) -> Result<(), Failed>
     ensures ok { OnOk result (Adds O.holds out.old out.new (concat all.now)) }
     ensures err { OnErr result (AddsPart O.holds out.old out.new (concat all.now)) }
-    ensures cause { OnErr result (Rose (O.faults out.old) (O.faults out.new)) }
-    ensures later { O.faults out.old ≤ O.faults out.new }
+    ensures counted { Counted (is_err result) (O.faults out.old) (O.faults out.new) }
 {
     for line in all {
         match out.put(line.as_bytes()) {
@@ -34,8 +33,7 @@ pub(crate) fn put_findings<O: Sink>(
 ) -> Result<(), Failed>
     ensures ok { OnOk result (Adds O.holds out.old out.new (flat_map (finding_line kind) found.now)) }
     ensures err { OnErr result (AddsPart O.holds out.old out.new (flat_map (finding_line kind) found.now)) }
-    ensures cause { OnErr result (Rose (O.faults out.old) (O.faults out.new)) }
-    ensures later { O.faults out.old ≤ O.faults out.new }
+    ensures counted { Counted (is_err result) (O.faults out.old) (O.faults out.new) }
 {
     for finding in found {
         match out.put(lines::finding(kind, finding).as_bytes()) {

@@ -1,6 +1,6 @@
 //! The parts of a run, and the turns of its recorder and its gate.
-ghost use Rattle.std.specs.Prelude.{◌≡◌, ◌*◌, ◌%◌, ◌-◌, ◌<◌, ◌≤◌, ◌∷◌, ◌&&◌, [], true, false, length, is_some, IsTrue, IfOk, IfSome, OnOk, OnErr};
-ghost use Rattle.after_edge.specs.Fault.{Rose};
+ghost use Rattle.std.specs.Prelude.{is_err, ◌≡◌, ◌*◌, ◌%◌, ◌-◌, ◌<◌, ◌≤◌, ◌∷◌, ◌&&◌, [], true, false, length, is_some, IsTrue, IfOk, IfSome, OnOk, OnErr};
+ghost use Rattle.after_edge.specs.Fault.{Counted};
 ghost use Rattle.machine_model.specs.Image.{IsLoadable};
 ghost use Rattle.gate_core.specs.Core.{CoreState};
 ghost use Rattle.gate_core.specs.Hub.{is_cap};
@@ -102,8 +102,7 @@ impl Parts {
         requires { IsSoundRun self.old }
         ensures ok { OnOk result ((c : Course) (core : CoreState) → IsAt c core self.old → HasReleased c core self.old self.new O.holds out.old out.new) }
         ensures err { OnErr result ((c : Course) (core : CoreState) → IsAt c core self.old → HasBroken c core self.new O.holds out.old out.new) }
-        ensures cause { OnErr result (Rose (O.faults out.old) (O.faults out.new)) }
-        ensures later { O.faults out.old ≤ O.faults out.new }
+        ensures counted { Counted (is_err result) (O.faults out.old) (O.faults out.new) }
     {
         let verdict = self.hub.look(0);
         match self.gate.release(verdict.approved, out) {

@@ -1,6 +1,6 @@
 //! The gate: bytes that wait for their steps.
 ghost use Rattle.std.specs.Prelude.{◌≡◌, ◌+◌, ◌<◌, ◌≤◌, false, length, take, drop, is_err, IfOk, OnOk, OnErr};
-ghost use Rattle.after_edge.specs.Fault.{Rose};
+ghost use Rattle.after_edge.specs.Fault.{Counted};
 ghost use Rattle.after_edge.specs.Sink.{Adds, AddsPart};
 ghost use Rattle.circular_buffer.specs.Buffer.{buffer};
 ghost use Rattle.output_gate.specs.Gate.{Climbs, behind, count_below, empty_gate, is_full, is_withheld, least_from, with_failure, with_issue, with_release, with_withheld};
@@ -96,10 +96,9 @@ impl OutputGate {
         ensures count { IfOk result (λ count. count ≡ count_below below self.old.steps) }
         ensures ok { OnOk result (Adds O.holds out.old out.new (take (count_below below self.old.steps) self.old.bytes)) }
         ensures err { OnErr result (AddsPart O.holds out.old out.new (take (count_below below self.old.steps) self.old.bytes)) }
-        ensures cause { OnErr result (Rose (O.faults out.old) (O.faults out.new)) }
         ensures some { OnErr result (1 ≤ count_below below self.old.steps) }
         ensures none { count_below below self.old.steps ≡ 0 → out.new ≡ out.old }
-        ensures later { O.faults out.old ≤ O.faults out.new }
+        ensures counted { Counted (is_err result) (O.faults out.old) (O.faults out.new) }
         ensures released { OnOk result (self.new ≡ with_release self.old (count_below below self.old.steps)) }
         ensures failed { OnErr result (self.new ≡ with_failure self.old (count_below below self.old.steps)) }
     {
@@ -234,8 +233,7 @@ fn put_front<O: Sink>(
     ensures same { bytes.new ≡ bytes.old }
     ensures ok { OnOk result (Adds O.holds out.old out.new (take count bytes.old.items)) }
     ensures err { OnErr result (AddsPart O.holds out.old out.new (take count bytes.old.items)) }
-    ensures cause { OnErr result (Rose (O.faults out.old) (O.faults out.new)) }
-    ensures later { O.faults out.old ≤ O.faults out.new }
+    ensures counted { Counted (is_err result) (O.faults out.old) (O.faults out.new) }
 {
     let whole: &[u8] = bytes.make_contiguous();
     out.put(&whole[..count])

@@ -1,4 +1,5 @@
-use Rattle.std.proofs.Common.{inl, inr, ap, sym, subst, arith}
+use Rattle.std.proofs.Common.{inl, inr, ap, sym, subst, ◌∙◌}
+use Rattle.after_edge.specs.Fault.{raised}
 use Rattle.after_edge.proofs.SinkLaws.{Adds-same, Adds-then, AddsPart-front, AddsPart-more, AddsPart-same, AddsPart-then}
 use Rattle.list_laws.specs.Prefix.{IsPrefix}
 use Rattle.gate_core.specs.Hub.{HubState}
@@ -10,8 +11,8 @@ use Rattle.after_cli.specs.Job.{job_course, cover_job, report_text}
 use Rattle.after_cli.proofs.JobLaws.{text-cover_job, report-cover_job, has_course, whole_run}
 use Rattle.after_cli.proofs.running.run_job.Goals as goal
 
-pub returns-in-Err-ran-clause-end : goal.returns-in-Err-ran-clause-end
-returns-in-Err-ran-clause-end g c =
+pub returns-in-Err-ran : goal.returns-in-Err-ran
+returns-in-Err-ran g c =
     let of = job_course (cover_job c.args.file.items c.args.ram_kib c.args.limit) in
     let course = has_course c.args.file.items c.args.ram_kib c.args.limit c.requires.steps in
     let stopped = c.in-Err-ran.ensures.err of c.in-Ok.ensures in
@@ -20,7 +21,7 @@ returns-in-Err-ran-clause-end g c =
       written = AddsPart-same g.O.Sink.holds c.args.out.now c.run_turns-ran.new.out (text-cover_job c.args.file.items c.args.ram_kib c.args.limit)
           (AddsPart-more g.O.Sink.holds c.args.out.now c.run_turns-ran.new.out (released_bytes of) (report_text of)
           (AddsPart-front g.O.Sink.holds c.args.out.now c.run_turns-ran.new.out (released_by of count) (released_bytes of) (released_by_IsPrefix of course count) stopped.put));
-      rose = c.in-Err-ran.ensures.cause;
+      counted = c.in-Err-ran.ensures.counted;
       closing_is = inl (record {
         put = AddsPart-same g.O.Sink.holds c.args.out.now c.run_turns-ran.new.out (ap (λ (hub : HubState). released_by of hub.appended) (sym (ap (λ (closing : Closing). closing.hub) c.finish-closing.ensures.parts))) stopped.put;
         closes = c.finish-closing.ensures.front of stopped.stopped;
@@ -34,20 +35,21 @@ tell-requires g c = record {
   whole = c.finish-closing.ensures.whole (job_course (cover_job c.args.file.items c.args.ram_kib c.args.limit)) (c.in-Ok-ran.ensures.ok (job_course (cover_job c.args.file.items c.args.ram_kib c.args.limit)) c.in-Ok.ensures).ended;
 }
 
-pub returns-in-Ok-tell-clause-end : goal.returns-in-Ok-tell-clause-end
-returns-in-Ok-tell-clause-end g c =
+pub returns-in-Ok-tell : goal.returns-in-Ok-tell
+returns-in-Ok-tell g c =
     let of = job_course (cover_job c.args.file.items c.args.ram_kib c.args.limit) in
     let course = has_course c.args.file.items c.args.ram_kib c.args.limit c.requires.steps in
     let closed = c.finish-closing.ensures.whole (job_course (cover_job c.args.file.items c.args.ram_kib c.args.limit)) (c.in-Ok-ran.ensures.ok (job_course (cover_job c.args.file.items c.args.ram_kib c.args.limit)) c.in-Ok.ensures).ended in
     record {
       written = Adds-same g.O.Sink.holds c.args.out.now c.tell.new.out (text-cover_job c.args.file.items c.args.ram_kib c.args.limit)
           (Adds-then g.O.Sink.holds c.args.out.now c.run_turns-ran.new.out c.tell.new.out (released_bytes of) (report_text of) (c.in-Ok-ran.ensures.ok of c.in-Ok.ensures).put (c.in-Ok-tell.ensures.ok of course closed));
+      quiet = c.in-Ok-tell.ensures.counted ∙ c.in-Ok-ran.ensures.counted;
       status_is = c.in-Ok-tell.ensures.status of course closed;
       closing_is = whole_run c.args.file.items c.args.ram_kib c.args.limit c.requires.steps c.finish-closing.result closed;
     }
 
-pub returns-in-Err-tell-clause-end : goal.returns-in-Err-tell-clause-end
-returns-in-Err-tell-clause-end g c =
+pub returns-in-Err-tell : goal.returns-in-Err-tell
+returns-in-Err-tell g c =
     let of = job_course (cover_job c.args.file.items c.args.ram_kib c.args.limit) in
     let course = has_course c.args.file.items c.args.ram_kib c.args.limit c.requires.steps in
     let closed = c.finish-closing.ensures.whole (job_course (cover_job c.args.file.items c.args.ram_kib c.args.limit)) (c.in-Ok-ran.ensures.ok (job_course (cover_job c.args.file.items c.args.ram_kib c.args.limit)) c.in-Ok.ensures).ended in
@@ -55,7 +57,7 @@ returns-in-Err-tell-clause-end g c =
     record {
       written = AddsPart-same g.O.Sink.holds c.args.out.now c.tell.new.out (text-cover_job c.args.file.items c.args.ram_kib c.args.limit)
           (AddsPart-then g.O.Sink.holds c.args.out.now c.run_turns-ran.new.out c.tell.new.out (released_bytes of) (report_text of) (c.in-Ok-ran.ensures.ok of c.in-Ok.ensures).put (c.in-Err-tell.ensures.err of course closed));
-      rose = omega (arith, c.in-Err-tell.ensures.cause, c.run_turns-ran.ensures.later);
+      counted = c.in-Err-tell.ensures.counted ∙ ap raised c.in-Ok-ran.ensures.counted;
       closing_is = inr (record {
         front = told.front;
         is_front = subst (IsPrefix told.front) (report-cover_job c.args.file.items c.args.ram_kib c.args.limit) told.is_front;

@@ -2,7 +2,7 @@ use Rattle.std.proofs.Common.{ℕ, map, string_bytes, sym, ◌∙◌, subst}
 use Rattle.after_cli.specs.Answer.{IsDone, OutputHasFailed, IsOfDone, IsOfRefusal, IsStatus, IsWhole}
 use Rattle.after_cli.specs.Means.{number_of}
 use Rattle.after_cli.proofs.CompleteLaws.{complete}
-use Rattle.after_cli.proofs.AnswerLaws.{known, done, output_failed, files_failed, not_built, refused, unopened}
+use Rattle.after_cli.proofs.AnswerLaws.{known, done, output_failed, files_failed, not_built, refused, unopened, files_quiet}
 use Rattle.after_cli.proofs.top.aftersight_plain.Goals as goal
 
 pub returns-clause-status : goal.returns-clause-status
@@ -13,8 +13,8 @@ returns-clause-status g c =
 
 pub returns-clause-done : goal.returns-clause-done
 returns-clause-done g c = λ of.
-    subst (λ (n : ℕ). IsDone (g.F.Files.content c.args.files.now) (map string_bytes c.args.words.now) g.O.Sink.holds c.args.out.now c.answer_words-answer.new.out n c.closing.result) (sym c.status-status.ensures)
-    (subst (IsDone (g.F.Files.content c.args.files.now) (map string_bytes c.args.words.now) g.O.Sink.holds c.args.out.now c.answer_words-answer.new.out (number_of c.answer_words-answer.result)) (sym c.closing.ensures)
+    subst (λ (n : ℕ). IsDone (g.F.Files.content c.args.files.now) (map string_bytes c.args.words.now) g.O.Sink.holds g.O.Sink.faults c.args.out.now c.answer_words-answer.new.out n c.closing.result) (sym c.status-status.ensures)
+    (subst (IsDone (g.F.Files.content c.args.files.now) (map string_bytes c.args.words.now) g.O.Sink.holds g.O.Sink.faults c.args.out.now c.answer_words-answer.new.out (number_of c.answer_words-answer.result)) (sym c.closing.ensures)
     (done (g.F.Files.content c.args.files.now) (map string_bytes c.args.words.now) (g.F.Files.faults c.args.files.now) (g.F.Files.faults c.answer_words-answer.new.files) g.O.Sink.holds g.O.Sink.faults c.args.out.now c.answer_words-answer.new.out
     c.answer_words-answer.result c.answer_words-answer.ensures.means (subst IsOfDone c.status-status.ensures of)))
 
@@ -50,3 +50,8 @@ returns-clause-unopened g c = λ of.
     c.closing.ensures
     ∙ unopened (g.F.Files.content c.args.files.now) (map string_bytes c.args.words.now) (g.F.Files.faults c.args.files.now) (g.F.Files.faults c.answer_words-answer.new.files) g.O.Sink.holds g.O.Sink.faults c.args.out.now c.answer_words-answer.new.out
     c.answer_words-answer.result c.answer_words-answer.ensures.means (subst IsOfRefusal c.status-status.ensures of)
+
+pub returns-clause-files_quiet : goal.returns-clause-files_quiet
+returns-clause-files_quiet g c = λ other.
+    files_quiet (g.F.Files.content c.args.files.now) (map string_bytes c.args.words.now) (g.F.Files.faults c.args.files.now) (g.F.Files.faults c.answer_words-answer.new.files) g.O.Sink.holds g.O.Sink.faults c.args.out.now c.answer_words-answer.new.out
+    c.answer_words-answer.result c.answer_words-answer.ensures.means (λ is. other (c.status-status.ensures ∙ is))

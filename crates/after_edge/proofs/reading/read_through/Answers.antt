@@ -4,7 +4,7 @@ use Rattle.after_edge.proofs.ReadLaws.{HasRead-end, HasRead-next, HasRead-longer
 use Rattle.after_edge.proofs.reading.read_through.Goals as goal
 
 pub pieces-init : goal.pieces-init
-pieces-init g c = rw c.new-bytes.ensures.items (record { begins = λ files told. record { front = empty_IsPrefix _ }; within = omega arith; untouched = λ none. refl; later = omega arith }, refl)
+pieces-init g c = rw c.new-bytes.ensures.items (record { begins = λ files told. record { front = empty_IsPrefix _ }; within = omega arith; quiet = refl }, refl)
 
 pub returns-in-Err-Absent-clause-cause : goal.returns-in-Err-Absent-clause-cause
 returns-in-Err-Absent-clause-cause g c =
@@ -20,11 +20,11 @@ pub returns-then-max-len-clause-cause : goal.returns-then-max-len-clause-cause
 returns-then-max-len-clause-cause g c =
     let here : c.len.result ≡ length c.pieces.bytes.items = search rules in
     let more : c.args.max - c.len.result < c.in-Ok.count = omega arith in
-    (refl, HasRead-longer _ _ _ _ _ _ _ c.pieces.invariant.0 c.pieces.invariant.1 _ _ _ here more c.in-Ok.ensures.read)
+    (refl, HasRead-longer _ _ _ _ _ _ _ c.pieces.invariant.0 c.pieces.invariant.1 _ _ _ here more c.in-Ok.ensures.read, c.in-Ok.ensures.cause ∙ c.pieces.invariant.0.quiet)
 
 pub pieces-preserved : goal.pieces-preserved
 pieces-preserved g c =
     let here : c.len.result ≡ length c.pieces.bytes.items = search rules in
     let joined : c.extend_from_slice.new.self.items ≡ c.pieces.bytes.items ++ take c.in-Ok.count c.read.new.buf = search rules in
     let long : length (take c.in-Ok.count c.read.new.buf) ≡ c.in-Ok.count = search rules in
-    (HasRead-next _ _ _ _ _ _ _ c.pieces.invariant.0 c.pieces.invariant.1 _ _ _ _ _ here joined long (omega arith) (omega arith) c.read.ensures.later c.in-Ok.ensures.read, c.read.ensures.same ∙ c.pieces.invariant.1)
+    (HasRead-next _ _ _ _ _ _ _ c.pieces.invariant.0 c.pieces.invariant.1 _ _ _ _ _ here joined long (omega arith) c.in-Ok.ensures.cause c.in-Ok.ensures.read, c.read.ensures.same ∙ c.pieces.invariant.1)

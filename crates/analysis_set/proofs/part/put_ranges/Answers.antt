@@ -23,5 +23,5 @@ loop-index-preserved g c =
     let size : length xs ≡ _ = length-take 64 (summary_now c.args.coverage.now).ranges in
     record {
       added = Adds-next g.O.Sink.holds _ c.loop-index.out _ range_line xs c.loop-index.index _ c.as_bytes.result.now (omega arith) (c.as_bytes.ensures ∙ c.shown_range.ensures) c.loop-index.invariant.added c.in-Ok.ensures.ok;
-      later = omega arith;
+      quiet = c.in-Ok.ensures.counted ∙ c.loop-index.invariant.quiet;
     }

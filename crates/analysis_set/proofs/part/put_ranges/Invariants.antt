@@ -1,4 +1,4 @@
-use Rattle.std.proofs.Common.{◌≤◌, take}
+use Rattle.std.proofs.Common.{◌≡◌, take}
 use Rattle.std.specs.List.{flat_map}
 use Rattle.after_edge.specs.Sink.{Adds}
 use Rattle.analysis_model.specs.Report.{range_line}
@@ -8,5 +8,5 @@ use Rattle.analysis_set.proofs.part.put_ranges.Given as goal
 abbrev pub invariant-loop-index : goal.invariant-loop-index
 invariant-loop-index g l = record {
   added : Adds g.O.Sink.holds l.initial.out l.out (flat_map range_line (take l.index (take 64 (summary_now l.coverage).ranges)));
-  later : g.O.Sink.faults l.initial.out ≤ g.O.Sink.faults l.out;
+  quiet : g.O.Sink.faults l.out ≡ g.O.Sink.faults l.initial.out;
 }

@@ -31,7 +31,7 @@ rounds-preserved g c = record {
       let way = c.rounds.invariant.way of opened in
       let passed = c.in-Ok-Took.ensures.ok of way.core way.idle in
       on_then of way.core passed.next c.round.new.self passed.idle g.O.Sink.holds c.args.out.now c.rounds.out c.round.new.out passed.more way.put passed.put;
-  later = omega (arith, c.rounds.invariant.later, c.round.ensures.later);
+  quiet = c.in-Ok-Took.ensures.counted ∙ c.rounds.invariant.quiet;
 }
 
 pub read_out-requires : goal.read_out-requires

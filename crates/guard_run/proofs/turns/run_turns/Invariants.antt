@@ -1,4 +1,4 @@
-use Rattle.std.proofs.Common.{◌≤◌}
+use Rattle.std.proofs.Common.{◌≡◌}
 use Rattle.guard_run.specs.Course.{Course}
 use Rattle.guard_run.specs.Runs.{IsOpened, IsOnItsWay, turns_left}
 use Rattle.guard_run.proofs.turns.run_turns.Given as goal
@@ -7,7 +7,7 @@ use Rattle.guard_run.proofs.turns.run_turns.Given as goal
 abbrev pub invariant-rounds : goal.invariant-rounds
 invariant-rounds g l = record {
   way : (c : Course) → IsOpened c l.fn.parts → IsOnItsWay c l.parts g.O.Sink.holds l.fn.out l.out;
-  later : g.O.Sink.faults l.fn.out ≤ g.O.Sink.faults l.out;
+  quiet : g.O.Sink.faults l.out ≡ g.O.Sink.faults l.fn.out;
 }
 
 -- in each round the recorder comes on
