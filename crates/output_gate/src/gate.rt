@@ -88,9 +88,9 @@ impl OutputGate {
         Ok(())
     }
 
-    /// Puts the waiting bytes whose steps are below this one, in order and in one piece of 1 to 4,096 bytes, and answers
-    /// how many they are. It makes no put where there are none. After a put that failed the gate is failed: some front of
-    /// the piece went out, all its bytes still count as waiting, and only the calls that tell numbers may follow.
+    /// Puts the waiting bytes whose steps are below this one, at most 4,096, in order, and answers how many they are. It
+    /// leaves the sink alone where there are none. After a put that failed the gate is failed: some front of them went
+    /// out, all of them still count as waiting, and only the calls that tell numbers may follow.
     pub fn release<O: Sink>(&mut self, below: u32, out: &mut O) -> Result<u32, SinkFault>
         requires sound { self.old.failed ≡ false }
         ensures count { IfOk result (λ count. count ≡ count_below below self.old.steps) }
