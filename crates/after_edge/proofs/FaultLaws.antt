@@ -1,5 +1,5 @@
 -- Counts of faults.
-use Rattle.std.proofs.Common.{◌≡◌, ℕ, ◌≤◌, arith}
+use Rattle.std.proofs.Common.{◌≡◌, ℕ, arith}
 use Rattle.after_edge.specs.Fault.{Rose, raised}
 
 -- a count that was raised rose

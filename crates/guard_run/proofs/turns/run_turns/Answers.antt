@@ -1,4 +1,4 @@
-use Rattle.std.proofs.Common.{◌≡◌, ◌⊎◌, inl, inr, true, sym, ◌∙◌, arith}
+use Rattle.std.proofs.Common.{◌≡◌, ◌⊎◌, inl, inr, true, sym, ◌∙◌}
 use Rattle.gate_core.specs.Core.{CoreState}
 use Rattle.guard_run.specs.declared.replica.Turn.{Turn}
 use Rattle.guard_run.specs.declared.replica.Turn.TheVariants.{Took, Closed}
