@@ -118,6 +118,7 @@ module _ (c : Course) (core : CoreState) (parts : Parts) (at : IsAt c core parts
             done = done;
             may = may;
             put = Adds-same holds old new front.1 part.added;
+            uncounted = ap (λ (g : GateState). g.released) made ∙ at.gates.released;
             broken = record {
               follows = follows_on c core parts.hub parts.replica at.follows core.appended core.closed true (core.released + done) parts.hub at.follows.stands
                   (event_IsSound plan core (Break count done) (is_plan c at.follows.course) at.follows.sound may);

@@ -95,7 +95,7 @@ pub record HasReleased {S : Type 0} (c : Course) (core : CoreState) (before afte
   pub put : Adds holds old new (bytes_between c core.released count)
   pub none : taken_by core ≡ core.appended → after.gate.steps ≡ []
 
--- what stands of a run whose put has failed; of that put the gate counts no byte as released
+-- what stands of a run whose put has failed
 pub record IsBroken (c : Course) (core : CoreState) (parts : Parts) : Type 0 where
   pub follows : Follows c core parts.hub parts.replica
   pub end : parts.end ≡ end_in (take core.appended (log_of c))
@@ -104,12 +104,14 @@ pub record IsBroken (c : Course) (core : CoreState) (parts : Parts) : Type 0 whe
   pub there : core.released ≤ length (issued_by c core.appended)
   pub failed : core.failed ≡ true
 
--- a put of bytes that may be released failed behind the first ones, which the sink got: a break of the core
+-- a put of bytes that may be released failed behind the first ones, which the sink got: a break of the core, of which the
+-- gate counts no byte as released
 pub record HasBroken {S : Type 0} (c : Course) (core : CoreState) (after : Parts) (holds : S → List ℕ → Type 0) (old new : S) : Type 0 where
   pub count : ℕ
   pub done : ℕ
   pub may : May (plan_of c) core (Break count done)
   pub put : Adds holds old new (bytes_between c core.released (core.released + done))
+  pub uncounted : after.gate.released ≡ core.released
   pub broken : IsBroken c (after_event (plan_of c) core (Break count done)) after
 
 -- between two rounds of turns: the replica has taken all that was appended, and no byte waits
