@@ -18,8 +18,9 @@ pub record IsRunOf (content : Option Contents) (words : List (List ℕ)) (file :
   pub named : NamesRun words image script
   pub inputs : AreInputs content image script file
 
--- 0, 1, 8, 11: a run was done. The bytes added to the output are the text of its job, no more and no less, no put of it
--- failed, the status is the job's, and the closing holds the job's whole log, which was taken, each record once and in order.
+-- 0, 1, 8, 11: a run was done. The bytes added to the output are the text of its job, no more and no less, its count of
+-- failed puts is as before, the status is the job's, and the closing holds the job's whole log, which was taken, each
+-- record once and in order.
 pub record IsDone {S : Type 0} (content : Option Contents) (words : List (List ℕ)) (holds : S → List ℕ → Type 0) (faults : S → ℕ) (old new : S) (number : ℕ) (closing : Option Closing) : Type 0 where
   pub file : List ℕ
   pub run : IsRunOf content words file
@@ -28,7 +29,7 @@ pub record IsDone {S : Type 0} (content : Option Contents) (words : List (List �
   pub status_is : number ≡ status (default_job file)
   pub closing_is : IsSomeAnd closing (IsWholeRun (default_job file))
 
--- 6: one put of the output failed, and some front of the job's text was added; the closing holds a front of the job's log,
+-- 6: the output's count was raised by one, and some front of the job's text was added; the closing holds a front of the job's log,
 -- which was taken, each record once and in order, and the whole log where the report had begun
 pub record OutputHasFailed {S : Type 0} (content : Option Contents) (words : List (List ℕ)) (holds : S → List ℕ → Type 0) (faults : S → ℕ) (old new : S) (closing : Option Closing) : Type 0 where
   pub file : List ℕ

@@ -43,14 +43,14 @@ pub record IsCutInReport {S : Type 0} (holds : S → List ℕ → Type 0) (old n
 abbrev pub IsCutRun : {S : Type 0} → (S → List ℕ → Type 0) → S → S → Job → Closing → Type 0
 IsCutRun holds old new job closing = IsCutInOutput holds old new job closing ⊎ IsCutInReport holds old new job closing
 
--- the whole text of the job was written, no put failed, and the status is the job's
+-- the whole text of the job was written, the sink's count is as before, and the status is the job's
 pub record IsDoneJob {S : Type 0} (holds : S → List ℕ → Type 0) (faults : S → ℕ) (old new : S) (job : Job) (number : ℕ) (closing : Closing) : Type 0 where
   pub written : Adds holds old new (text job)
   pub quiet : faults new ≡ faults old
   pub status_is : number ≡ status job
   pub closing_is : IsWholeRun job closing
 
--- one put failed, which the count of the sink shows, and some front of the text was written
+-- a put failed, for which the sink's count was raised by one, and some front of the text was written
 pub record HasFailedOutput {S : Type 0} (holds : S → List ℕ → Type 0) (faults : S → ℕ) (old new : S) (job : Job) (closing : Closing) : Type 0 where
   pub written : AddsPart holds old new (text job)
   pub counted : faults new ≡ raised (faults old)

@@ -85,7 +85,8 @@ impl Replay {
     }
 
     /// Takes the next record: executes the steps below its number, as far as the list fits, and shows each event. It
-    /// answers the first fault of the list so far, if there is one. After a fault it answers the same at every call and shows nothing. It takes no memory.
+    /// answers the first fault of the list so far, if there is one. After a fault it answers the same at every call and
+    /// shows nothing. It takes no memory.
     pub fn take<W: Watcher>(&mut self, item: &Record, seen: &mut W) -> Result<(), Diverged>
         requires item { IsRecord item.now }
         requires taken { IsTrue (is_taken item.now) }
