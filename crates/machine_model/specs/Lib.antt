@@ -5,3 +5,4 @@ pub mod Replay
 pub mod State
 pub mod Step
 pub mod Run
+pub mod Script

@@ -6,10 +6,12 @@ mod event;
 mod finding;
 mod record;
 mod shared;
+mod supply;
 mod watcher;
 
 pub use access::{Access, Told};
 pub use event::Event;
 pub use finding::{Finding, FindingKind, Kind};
 pub use record::{EndCause, Record};
+pub use supply::{DmaWord, Need, Supplied};
 pub use watcher::Watcher;
