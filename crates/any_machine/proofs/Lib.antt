@@ -1,0 +1,3 @@
+pub mod Toy
+pub mod ToyRun
+pub mod ToyFaults
