@@ -8,7 +8,7 @@ use Rattle.run_events.specs.declared.supply.DmaWord.{DmaWord}
 use Rattle.run_events.specs.declared.supply.Supplied.{Supplied}
 use Rattle.run_events.specs.Record.{number}
 use Rattle.any_machine.specs.Machine.{Input}
-use Rattle.any_machine.specs.Tape.{bits_told, load_told, words_told, lines_at, load_at, words_at, tape_of}
+use Rattle.any_machine.specs.Tape.{bits_told, load_told, words_told, tape_of}
 
 pub bits_later : (k : ℕ) (item : Record) → k < number item → bits_told k item ≡ None
 bits_later k (Lines step bits) later = grind (arith, nat_tests, later)

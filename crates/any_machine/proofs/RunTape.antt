@@ -1,13 +1,11 @@
 -- The inputs of a run as a tape, and what the steps over this tape are: the run's own turns.
 use Rattle.std.proofs.Common.{◌≡◌, ◌⊎◌, inl, inr, ℕ, zero, suc, ◌≤◌, Bool, true, false, List, [], ◌∷◌, ◌++◌, length, take, Option, Some, None, refl, sym, ap, subst, ◌∙◌, arith, unwrap_or}
 use Rattle.std.specs.Prelude.{slice_get, is_some}
-use Rattle.run_events.specs.declared.fault.Why.{Why}
 use Rattle.run_events.specs.declared.record.EndCause.{EndCause}
 use Rattle.run_events.specs.declared.record.EndCause.TheVariants.{Power, Limit}
-use Rattle.run_events.specs.declared.event.Event.{Event}
 use Rattle.any_machine.specs.Machine.{Machine, Input, Turn, IsInput, power_status, is_load, writes_of, need_of, after, turn_of}
-use Rattle.any_machine.specs.Run.{EndsOrGoes, IsTurn, IsRun, writes_in}
-use Rattle.any_machine.specs.Replay.{supply_fault, state_at, turn_at, turns_below, power_at, load_fault_at}
+use Rattle.any_machine.specs.Run.{EndsOrGoes, IsRun, writes_in}
+use Rattle.any_machine.specs.Replay.{supply_fault, state_at, turn_at, turns_below, load_fault_at}
 use Rattle.any_machine.proofs.TapeLaws.{state_at-zero, state_at-suc, turns_below-zero, turns_below-suc}
 
 abbrev pub no_input : Input

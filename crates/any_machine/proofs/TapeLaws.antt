@@ -1,5 +1,5 @@
 -- What is computed of the steps below a number depends on the tape below it alone; and the first step that stops.
-use Rattle.std.proofs.Common.{◌≡◌, ℕ, zero, suc, ◌<◌, List, [], ◌∷◌, ◌++◌, Option, Some, None, refl, sym, ap, ◌∙◌, arith, below_more}
+use Rattle.std.proofs.Common.{◌≡◌, ℕ, zero, suc, ◌<◌, [], ◌∷◌, ◌++◌, Some, None, refl, sym, ap, ◌∙◌, arith, below_more}
 use Rattle.std.specs.Option.{option_or}
 use Rattle.run_events.specs.declared.record.Record.{Record}
 use Rattle.any_machine.specs.Machine.{Machine, Input, Turn, power_status, need_of, after, turn_of}
