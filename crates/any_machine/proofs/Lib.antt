@@ -1,0 +1,9 @@
+pub mod LookUpLaws
+pub mod TapeLaws
+pub mod RunTape
+pub mod Order
+pub mod OutcomeLaws
+pub mod Prefixes
+pub mod Toy
+pub mod ToyRun
+pub mod ToyFaults
