@@ -4,7 +4,8 @@ use Rattle.std.specs.List.{All}
 use Rattle.run_events.specs.declared.record.Record.{Record}
 use Rattle.run_events.specs.declared.record.Record.TheVariants.{Reach}
 use Rattle.run_events.specs.Record.{IsRecord, is_ordered, reach}
-use Rattle.any_machine.specs.Log.{Item, before_step, bytes_of}
+use Rattle.run_events.specs.declared.item.Item.{Item}
+use Rattle.any_machine.specs.Log.{before_step, bytes_of}
 use Rattle.gate_core.specs.declared.verdict.Verdict.{Verdict}
 use Rattle.gate_core.specs.Core.{Plan, reached}
 use Rattle.output_gate.specs.Gate.{Climbs}

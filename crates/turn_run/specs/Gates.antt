@@ -1,13 +1,12 @@
 -- The gate of a run, where the core stands.
-use Rattle.std.specs.Prelude.{◌≡◌, ◌⊎◌, ℕ, ◌+◌, ◌-◌, ◌<◌, ◌≤◌, Bool, true, false, if◌then◌else◌, List, [], ◌∷◌, length, take, drop, min, slice_index, Option, Some, None}
-use Rattle.std.specs.List.{All}
+use Rattle.std.specs.Prelude.{◌≡◌, ℕ, ◌+◌, ◌-◌, ◌<◌, ◌≤◌, false, if◌then◌else◌, List, [], ◌∷◌, length, take, drop, slice_index, Option, Some, None}
 use Rattle.run_events.specs.Record.{number}
-use Rattle.any_machine.specs.Log.{Item, before_step, bytes_of}
-use Rattle.gate_core.specs.declared.verdict.Verdict.{Verdict}
+use Rattle.run_events.specs.declared.item.Item.{Item}
+use Rattle.any_machine.specs.Log.{before_step, bytes_of}
 use Rattle.gate_core.specs.Core.{CoreState}
 use Rattle.gate_core.specs.Hub.{HubState, approved_at, verdict_at}
 use Rattle.output_gate.specs.Gate.{GateState, behind, with_issue, with_withheld}
-use Rattle.turn_run.specs.Course.{Course, steps_of, bytes_in, stop_of}
+use Rattle.turn_run.specs.Course.{Course, least_limit, steps_of, bytes_in, stop_of}
 
 -- the bytes of the records that were appended, each with its step
 abbrev pub issued_by : Course → ℕ → List (ℕ × ℕ)
@@ -37,6 +36,10 @@ abbrev pub IsWithheldFrom : Course → Option ℕ → Type 0
 IsWithheldFrom c None = Unit {0}
 IsWithheldFrom c (Some from) = IsLimit c from
 
+-- below which step all of these readers approve, by what each approves; where there are none, all
+abbrev pub least_approved : List ℕ → List ℕ → ℕ
+least_approved approved readers = least_limit approved 1000000000 readers
+
 -- The bytes of the appended records were issued. What is not released and not withheld waits, and what was put is
 -- approved by each required replica.
 pub record Gates (c : Course) (core : CoreState) (gate : GateState) : Type 0 where
@@ -45,7 +48,7 @@ pub record Gates (c : Course) (core : CoreState) (gate : GateState) : Type 0 whe
   pub issued : gate.issued ≡ length (issued_by c core.appended)
   pub released : gate.released ≡ core.released
   pub last : gate.next ≡ behind 0 (steps_of (issued_by c core.appended))
-  pub passed : All (λ reader. gate.passed ≤ slice_index core.approved reader) c.required
+  pub passed : gate.passed ≤ least_approved core.approved c.required
   pub withheld : IsWithheldFrom c gate.from
   pub sound : gate.failed ≡ false
   pub there : core.released ≤ length (kept gate.from (issued_by c core.appended))
@@ -58,11 +61,6 @@ with_byte gate step (Some byte) = with_issue gate step byte
 
 abbrev pub with_item : GateState → Item → GateState
 with_item gate i = with_byte gate (number i.item - 1) i.byte
-
--- below which step all of these readers approve; where there are none, all
-abbrev pub least_approved : HubState → List ℕ → ℕ
-least_approved hub [] = 1000000000
-least_approved hub (reader ∷ readers) = min (approved_at hub reader) (least_approved hub readers)
 
 -- from which steps on those of them refuse that refuse anything
 abbrev pub refusals : HubState → List ℕ → List ℕ

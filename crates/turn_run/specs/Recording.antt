@@ -1,6 +1,6 @@
 -- What a recorder hands out.
 use Rattle.std.specs.Prelude.{◌≡◌, ℕ, ◌<◌, ◌≤◌, List, [], ◌∷◌}
-use Rattle.any_machine.specs.Log.{Item}
+use Rattle.run_events.specs.declared.item.Item.{Item}
 use Rattle.turn_run.specs.declared.recorder.Advance.{Advance}
 use Rattle.turn_run.specs.declared.recorder.Advance.TheVariants as advance
 

@@ -1,34 +1,73 @@
 -- A run under way, where the core stands, and what each turn makes of it.
-use Rattle.std.specs.Prelude.{◌≡◌, ◌⊎◌, ℕ, ◌+◌, ◌-◌, ◌*◌, ◌≤◌, ◌<◌, ◌==◌, true, false, if◌then◌else◌, List, [], ◌∷◌, ◌++◌, length, take, drop, map, sum, slice_index, Option, Some, None, is_some}
-use Rattle.std.specs.List.{Contains}
-use Rattle.list_laws.specs.Prefix.{IsPrefix}
+use Rattle.std.specs.Prelude.{◌≡◌, ◌⊎◌, ℕ, ◌+◌, ◌-◌, ◌*◌, ◌≤◌, ◌<◌, ◌==◌, Bool, true, false, if◌then◌else◌, List, [], ◌∷◌, ◌++◌, length, take, drop, sum_by, slice_index}
 use Rattle.after_edge.specs.Fault.{Rose}
-use Rattle.after_edge.specs.Sink.{Telling, Writes, WritesPart, Adds}
-use Rattle.any_machine.specs.Log.{Item}
-use Rattle.gate_core.specs.Core.{CoreState, Append, Close, Release, Break, May, after_event, opening}
+use Rattle.after_edge.specs.Sink.{Telling, Adds, Writes, WritesPart}
+use Rattle.gate_core.specs.Core.{CoreState, Append, Close, Break, May, after_event, opening}
 use Rattle.gate_core.specs.Hub.{HubState}
-use Rattle.output_gate.specs.Gate.{GateState}
 use Rattle.turn_run.specs.declared.parts.Parts.{Parts}
-use Rattle.turn_run.specs.declared.source.Source.{Source}
+use Rattle.turn_run.specs.declared.parts.Recorded.{Recorded}
+use Rattle.turn_run.specs.declared.parts.Recorded.TheVariants.{Appended, Closed, Waits, Over}
+use Rattle.turn_run.specs.declared.reading.Turn.{Turn}
+use Rattle.turn_run.specs.declared.reading.Turn.TheVariants as turn
 use Rattle.turn_run.specs.Recording.{Recording}
 use Rattle.turn_run.specs.Following.{Following}
+use Rattle.turn_run.specs.Sources.{StillToCome, items_left}
 use Rattle.turn_run.specs.Course.{Course, log_of, output_of, bytes_in, plan_of, released_bytes}
-use Rattle.turn_run.specs.Replicas.{Follows}
+use Rattle.turn_run.specs.Replicas.{Follows, after_turn}
 use Rattle.turn_run.specs.Gates.{Gates, issued_by, released_by}
 use Rattle.turn_run.specs.Endings.{end_in}
 
--- an item that waits, and the items that are still to come of the recorder after it
-abbrev pub waiting_first : Option Item → List Item → List Item
-waiting_first None items = items
-waiting_first (Some item) items = item ∷ items
+-- so many bytes are released
+abbrev pub with_released : CoreState → ℕ → CoreState
+with_released core count = record core { released = count }
 
-pub record StillToCome {M : Type 0} (r : Recording M) (source : Source M) (items : List Item) : Type 0 where
-  pub rest : List Item
-  pub to_come : r.to_come source.recorder rest
-  pub joined : items ≡ waiting_first source.waiting rest
+-- the bytes of the output between two places
+abbrev pub bytes_between : Course → ℕ → ℕ → List ℕ
+bytes_between c from to = bytes_in (drop from (take to (output_of c)))
+
+-- how many records each reader has still to take, together
+abbrev pub unread : HubState → ℕ
+unread hub = sum_by (λ count. hub.appended - count) hub.taken
+
+-- each follower has taken all that was appended
+abbrev pub AllTaken : Course → CoreState → Type 0
+AllTaken c core = (reader : ℕ) → reader < length c.limits → slice_index core.taken reader ≡ core.appended
+
+-- A TURN OF A FOLLOWER
+
+module _ {M F : Type 0} where
+  -- all but the log and the followers is as before
+  pub record IsBesides (before after : Parts M F) : Type 0 where
+    pub source : after.source ≡ before.source
+    pub required : after.required ≡ before.required
+    pub gate : after.gate ≡ before.gate
+    pub end : after.end ≡ before.end
+
+  -- a record more is read, or nothing has changed
+  abbrev pub LessensRead : Turn → Parts M F → Parts M F → Type 0
+  LessensRead turn.Took before after = (unread after.hub < unread before.hub) × (after.hub.closed ≡ before.hub.closed) × (length after.hub.taken ≡ length before.hub.taken)
+  LessensRead turn.Empty before after = after ≡ before
+  LessensRead turn.Closed before after = after ≡ before
+
+module _ {M F : Type 0} (f : Following F) where
+  -- the followers stand where the core does
+  abbrev pub IsFollowed : Course → CoreState → Parts M F → Type 0
+  IsFollowed c core parts = Follows f c core parts.hub parts.followers.items
+
+  pub record IsFollowedRun (parts : Parts M F) : Type 0 where
+    pub of : Course
+    pub core : CoreState
+    pub follows : IsFollowed of core parts
+
+  -- a follower took the next record, or there was none for it
+  abbrev pub Reads : Course → CoreState → ℕ → Turn → Parts M F → Parts M F → Type 0
+  Reads c core reader turn.Took before after = (slice_index core.taken reader < core.appended) × IsFollowed c (after_turn c core reader) after
+  Reads c core reader turn.Empty before after = (core.closed ≡ false) × (slice_index core.taken reader ≡ core.appended)
+  Reads c core reader turn.Closed before after = (core.closed ≡ true) × (slice_index core.taken reader ≡ core.appended)
 
 module _ {M F : Type 0} (r : Recording M) (f : Following F) where
-  -- no put has failed: the recorder has the items after those that were appended, and the gate their bytes
+  -- No put has failed: the followers stand where the core does, the recorder has the items after those that were
+  -- appended, and the gate their bytes.
   pub record IsAt (c : Course) (core : CoreState) (parts : Parts M F) : Type 0 where
     pub follows : Follows f c core parts.hub parts.followers.items
     pub rest : StillToCome r parts.source (drop core.appended c.items)
@@ -46,3 +85,132 @@ module _ {M F : Type 0} (r : Recording M) (f : Following F) where
     pub of : Course
     pub core : CoreState
     pub at : IsAt of core parts
+
+  -- What is left of a run, in one number: each item counts for its append, for a take of each follower and for its byte;
+  -- then the close, the records that are still to be taken, and the bytes that wait.
+  abbrev pub turns_left : Parts M F → ℕ
+  turns_left parts =
+      items_left r parts.source * (length parts.hub.taken + 2) + (if parts.hub.closed then 0 else 1) + unread parts.hub + length parts.gate.steps
+
+  -- A TURN OF THE RECORDER
+
+  -- it appended the next record
+  pub record HasAppended (c : Course) (core : CoreState) (after : Parts M F) : Type 0 where
+    pub «open» : core.closed ≡ false
+    pub at : IsAt c (after_event (plan_of c) core Append) after
+
+  -- it closed the log after the last record
+  pub record HasClosed (c : Course) (core : CoreState) (after : Parts M F) : Type 0 where
+    pub «open» : core.closed ≡ false
+    pub all : core.appended ≡ length c.items
+    pub at : IsAt c (after_event (plan_of c) core Close) after
+
+  -- there is no place in the log, since some follower has a whole log still to take, or none in the gate
+  abbrev pub HasNoRoom : Course → CoreState → ℕ → Type 0
+  HasNoRoom c core waiting = ((reader : ℕ) × (reader < length c.limits) × (slice_index core.taken reader + c.cap ≡ core.appended)) ⊎ (waiting ≡ 4096)
+
+  -- it found no room for the next record, which waits
+  pub record HasWaited (c : Course) (core : CoreState) (before after : Parts M F) : Type 0 where
+    pub «open» : core.closed ≡ false
+    pub crowded : HasNoRoom c core (length before.gate.steps)
+    pub at : IsAt c core after
+    pub same : after.gate ≡ before.gate
+
+  -- what a turn of the recorder answers, and where it leads
+  abbrev pub Records : Course → CoreState → Recorded → Parts M F → Parts M F → Type 0
+  Records c core Appended before after = HasAppended c core after
+  Records c core Closed before after = HasClosed c core after
+  Records c core Waits before after = HasWaited c core before after
+  Records c core Over before after = (core.closed ≡ true) × (after ≡ before)
+
+  -- and what it leaves: less, where it appended or closed
+  abbrev pub Lessens : Recorded → Parts M F → Parts M F → Type 0
+  Lessens Appended before after = turns_left after < turns_left before
+  Lessens Closed before after = turns_left after < turns_left before
+  Lessens Waits before after = turns_left after ≤ turns_left before
+  Lessens Over before after = turns_left after ≤ turns_left before
+
+  -- A TURN OF THE GATE
+
+  -- It put the bytes up to some place of the output, all of them approved by each required follower; where nothing was
+  -- put or dropped and all records were taken, none waits.
+  pub record HasReleased {S : Type 0} (c : Course) (core : CoreState) (before after : Parts M F) (sink : Telling S) (old new : S) : Type 0 where
+    pub count : ℕ
+    pub more : core.released ≤ count
+    pub at : IsAt c (with_released core count) after
+    pub put : Writes sink old new (bytes_between c core.released count)
+    pub none : AllTaken c core → after.gate.steps ≡ []
+    pub source : after.source ≡ before.source
+    pub hub : after.hub ≡ before.hub
+    pub fewer : (after.gate.steps ≡ before.gate.steps) × (count ≡ core.released) ⊎ (length after.gate.steps < length before.gate.steps)
+
+  -- what stands of a run whose put has failed
+  pub record IsBroken (c : Course) (core : CoreState) (parts : Parts M F) : Type 0 where
+    pub follows : Follows f c core parts.hub parts.followers.items
+    pub end : parts.end ≡ end_in (take core.appended (log_of c))
+    pub issued : parts.gate.issued ≡ length (issued_by c core.appended)
+    pub released : parts.gate.released ≤ core.released
+    pub there : core.released ≤ length (issued_by c core.appended)
+    pub failed : core.failed ≡ true
+
+  -- A put of bytes that may be released failed after the first ones, which the sink got: a break of the core, of which the
+  -- gate counts no byte as released.
+  pub record HasBroken {S : Type 0} (c : Course) (core : CoreState) (after : Parts M F) (sink : Telling S) (old new : S) : Type 0 where
+    pub count : ℕ
+    pub done : ℕ
+    pub may : May (plan_of c) core (Break count done)
+    pub put : Adds sink.holds old new (bytes_between c core.released (core.released + done))
+    pub rose : Rose (sink.faults old) (sink.faults new)
+    pub broken : IsBroken c (after_event (plan_of c) core (Break count done)) after
+
+  -- A PERIOD OF TURNS
+
+  -- the run stands at some state of the core, and the bytes between were put
+  pub record HasCome {S : Type 0} (c : Course) (from : ℕ) (after : Parts M F) (sink : Telling S) (old new : S) : Type 0 where
+    pub next : CoreState
+    pub at : IsAt c next after
+    pub more : from ≤ next.released
+    pub put : Writes sink old new (bytes_between c from next.released)
+
+  -- it has come to a failed put
+  pub record HasCrashed {S : Type 0} (c : Course) (from : ℕ) (after : Parts M F) (sink : Telling S) (old new : S) : Type 0 where
+    pub next : CoreState
+    pub broken : IsBroken c next after
+    pub more : from ≤ next.released
+    pub put : Adds sink.holds old new (bytes_between c from next.released)
+    pub rose : Rose (sink.faults old) (sink.faults new)
+
+  -- the log is closed, and each follower has taken all of it
+  abbrev pub IsReadOut : Parts M F → Type 0
+  IsReadOut parts = (parts.hub.closed ≡ true) × ((reader : ℕ) → reader < length parts.hub.taken → slice_index parts.hub.taken reader ≡ parts.hub.appended)
+
+  -- THE END
+
+  -- A run that went to its end: all records were appended and taken, and all bytes that are let out were released.
+  pub record IsEnded (c : Course) (parts : Parts M F) : Type 0 where
+    pub core : CoreState
+    pub at : IsAt c core parts
+    pub closed : core.closed ≡ true
+    pub appended : core.appended ≡ length c.items
+    pub taken : AllTaken c core
+    pub released : core.released ≡ length (released_bytes c)
+    pub none : parts.gate.steps ≡ []
+
+  -- a run that a failed put has ended: the log was closed, and all of it was taken
+  pub record IsStopped (c : Course) (parts : Parts M F) : Type 0 where
+    pub core : CoreState
+    pub broken : IsBroken c core parts
+    pub closed : core.closed ≡ true
+    pub taken : AllTaken c core
+
+  -- and what was put by then: all that is let out
+  pub record HasEnded {S : Type 0} (c : Course) (parts : Parts M F) (sink : Telling S) (old new : S) : Type 0 where
+    pub ended : IsEnded c parts
+    pub put : Writes sink old new (released_bytes c)
+
+  -- or the first bytes of what is let out of the records in the log: as many as the core has released
+  pub record HasStopped {S : Type 0} (c : Course) (parts : Parts M F) (sink : Telling S) (old new : S) : Type 0 where
+    pub stopped : IsStopped c parts
+    pub put : Adds sink.holds old new (take stopped.core.released (released_by c stopped.core.appended))
+    pub within : stopped.core.released ≤ length (released_by c stopped.core.appended)
+    pub rose : Rose (sink.faults old) (sink.faults new)

@@ -1,6 +1,6 @@
 //! The trait of recorders.
 ghost use Rattle.std.specs.Prelude.{List};
-ghost use Rattle.any_machine.specs.Log.{Item};
+ghost use Rattle.run_events.specs.declared.item.Item.{Item};
 ghost use Rattle.turn_run.specs.Recording.{Advances, Falls, Recording};
 
 use run_events::Record;

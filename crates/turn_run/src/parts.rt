@@ -1,0 +1,157 @@
+//! The parts of a run, and a turn of each of them.
+ghost use Rattle.std.specs.Prelude.{◌≡◌, ◌-◌, ◌<◌, ◌≤◌, ◌&&◌, false, length, is_some, slice_index, IfSome, OnOk, OnErr};
+ghost use Rattle.std.specs.List.{All};
+ghost use Rattle.run_events.specs.Record.{number};
+ghost use Rattle.gate_core.specs.Core.{CoreState};
+ghost use Rattle.gate_core.specs.Follow.{approvals};
+ghost use Rattle.gate_core.specs.Hub.{approved_at};
+ghost use Rattle.output_gate.specs.Gate.{is_full};
+ghost use Rattle.turn_run.specs.Course.{Course, IsMarked};
+ghost use Rattle.turn_run.specs.Gates.{least_approved, refusals, with_item, withheld_from};
+ghost use Rattle.turn_run.specs.Runs.{HasBroken, HasReleased, IsAt, IsBesides, IsFollowed, IsFollowedRun, IsSoundRun, Lessens, LessensRead, Reads, Records};
+
+use crate::ending::Ending;
+use crate::source::Source;
+use crate::{Follower, Recorder, Turn, read_next};
+use after_edge::Sink;
+use gate_core::Hub;
+use output_gate::{OutputGate, ROOM, SinkFault};
+use run_events::{Item, Record};
+
+/// What a turn of the recorder came to.
+#[derive(Clone, Copy, Debug, PartialEq, Eq)]
+pub(crate) enum Recorded {
+    /// A record was appended.
+    Appended,
+    /// The log was closed, after its last record.
+    Closed,
+    /// There was no room for the record, which waits.
+    Waits,
+    /// The log was closed before.
+    Over,
+}
+
+/// A run before its end: the recorder, the log, the followers, those of them that have to approve, and the gate.
+#[derive(Drop)]
+pub struct Parts<M: Recorder, F: Follower> {
+    pub(crate) source: Source<M>,
+    pub(crate) hub: Hub,
+    pub(crate) followers: Vec<F>,
+    pub(crate) required: Vec<u32>,
+    pub(crate) gate: OutputGate,
+    // the end that was appended
+    pub(crate) end: Option<Ending>,
+}
+
+impl<M: Recorder, F: Follower> Parts<M, F> {
+    // A turn of the recorder: its next record is appended where the log has room, and the gate for its byte; else it
+    // waits. After the last record the log is closed.
+    pub(crate) fn append_next(&mut self) -> Recorded
+        requires { IsSoundRun M.recording F.following self.old }
+        ensures records { (c : Course) (core : CoreState) → IsAt M.recording F.following c core self.old → Records M.recording F.following c core result self.old self.new }
+        ensures lessens { Lessens M.recording F.following result self.old self.new }
+    {
+        if self.hub.is_closed() {
+            return Recorded::Over;
+        }
+        let Some(item) = self.source.next() else {
+            self.hub.close();
+            return Recorded::Closed;
+        };
+        if is_crowded(&self.gate, item) {
+            self.source.put_back(item);
+            return Recorded::Waits;
+        }
+        match self.hub.append(item.item) {
+            Ok(()) => {}
+            Err(_) => {
+                self.source.put_back(item);
+                return Recorded::Waits;
+            }
+        }
+        issue(&mut self.gate, item);
+        self.end = Ending::of(item.item);
+        Recorded::Appended
+    }
+
+    // A turn of the follower with this number.
+    pub(crate) fn read(&mut self, reader: u32) -> Turn
+        requires followed { IsFollowedRun F.following self.old }
+        requires there { reader < length self.old.followers.items }
+        ensures reads { (c : Course) (core : CoreState) → IsFollowed F.following c core self.old → Reads F.following c core reader result self.old self.new }
+        ensures besides { IsBesides self.old self.new }
+        ensures lessens { LessensRead result self.old self.new }
+    {
+        let follower = &mut self.followers[reader as usize];
+        read_next(follower, reader, &mut self.hub)
+    }
+
+    // A turn of the gate: it releases below what each required follower approves, and withholds from there on where one
+    // refuses.
+    pub(crate) fn release<O: Sink>(&mut self, out: &mut O) -> Result<(), SinkFault>
+        requires { IsSoundRun M.recording F.following self.old }
+        ensures ok { OnOk result ((c : Course) (core : CoreState) → IsAt M.recording F.following c core self.old → HasReleased M.recording F.following c core self.old self.new O.told out.old out.new) }
+        ensures err { OnErr result ((c : Course) (core : CoreState) → IsAt M.recording F.following c core self.old → HasBroken M.recording F.following c core self.new O.told out.old out.new) }
+    {
+        let below = least_approved(&self.hub, &self.required);
+        match self.gate.release(below, out) {
+            Ok(_) => {}
+            Err(fault) => return Err(fault),
+        }
+        withhold_refused(&mut self.gate, &self.hub, &self.required);
+        Ok(())
+    }
+}
+
+// Whether the gate has no place for the byte of an item.
+fn is_crowded(gate: &OutputGate, item: Item) -> bool
+    ensures { result ≡ (is_some item.byte && is_full gate.now) }
+{
+    item.byte.is_some() && gate.waiting() as usize == ROOM
+}
+
+// Lets the byte of an item wait.
+fn issue(gate: &mut OutputGate, item: Item)
+    requires sound { gate.old.failed ≡ false }
+    requires room { (is_some item.byte && is_full gate.old) ≡ false }
+    requires rises { IfSome item.byte (λ _. gate.old.next ≤ number item.item - 1) }
+    requires marks { IsMarked item }
+    ensures { gate.new ≡ with_item gate.old item }
+{
+    if let (Some(byte), Record::Reach { step }) = (item.byte, item.item) {
+        match gate.issue(step - 1, byte) {
+            Ok(()) => {}
+            Err(_) => unreachable!(),
+        }
+    }
+}
+
+/// More than each step of a run.
+const ALL_STEPS: u32 = 1_000_000_000;
+
+// Below which step all of these readers approve; where there are none, all.
+fn least_approved(hub: &Hub, required: &[u32]) -> u32
+    requires { All (λ reader. reader < length hub.now.taken) required.now }
+    ensures { result ≡ least_approved (approvals hub.now.verdicts) required.now }
+{
+    let mut least = ALL_STEPS;
+    for reader in required {
+        least = hub.look(*reader).approved.min(least);
+    }
+    least
+}
+
+// Withholds all from the step on that one of these readers refuses.
+fn withhold_refused(gate: &mut OutputGate, hub: &Hub, required: &[u32])
+    requires there { All (λ reader. reader < length hub.now.taken) required.now }
+    requires sound { gate.old.failed ≡ false }
+    requires passed { All (λ reader. gate.old.passed ≤ approved_at hub.now reader) required.now }
+    ensures { gate.new ≡ withheld_from (refusals hub.now required.now) gate.old }
+{
+    for reader in required {
+        let verdict = hub.look(*reader);
+        if verdict.refused {
+            gate.withhold(verdict.approved);
+        }
+    }
+}
