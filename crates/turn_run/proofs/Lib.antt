@@ -2,6 +2,9 @@ pub mod CourseLaws
 pub mod IssueLaws
 pub mod LeastLaws
 pub mod ListLaws
+pub mod PartLaws
 pub mod ReadLaws
+pub mod ReadTurnLaws
 pub mod ReleaseLaws
 pub mod WithholdLaws
+pub mod TurnLaws

@@ -46,8 +46,8 @@ module _ {M F : Type 0} where
   -- a record more is read, or nothing has changed
   abbrev pub LessensRead : Turn → Parts M F → Parts M F → Type 0
   LessensRead turn.Took before after = (unread after.hub < unread before.hub) × (after.hub.closed ≡ before.hub.closed) × (length after.hub.taken ≡ length before.hub.taken)
-  LessensRead turn.Empty before after = after ≡ before
-  LessensRead turn.Closed before after = after ≡ before
+  LessensRead turn.Empty before after = (after.hub ≡ before.hub) × (after.followers.items ≡ before.followers.items)
+  LessensRead turn.Closed before after = (after.hub ≡ before.hub) × (after.followers.items ≡ before.followers.items)
 
 module _ {M F : Type 0} (f : Following F) where
   -- the followers stand where the core does
