@@ -2,9 +2,8 @@
 use Rattle.std.proofs.Common.{◌≡◌, inl, inr, ⊎_elim, ℕ, ◌<◌, ◌≤◌, true, false, List, [], length, Option, Some, None, refl, sym, subst, ap, ◌∙◌, arith}
 use Rattle.std.proofs.lemmas.Option.{same_Some, none-some}
 use Rattle.after_edge.specs.Fault.{Rose}
-use Rattle.after_edge.proofs.FaultLaws.{Rose-raised}
 use Rattle.after_edge.specs.Files.{Contents, IsAbsent}
-use Rattle.after_edge.specs.Sink.{Adds}
+use Rattle.after_edge.specs.Sink.{Telling, Writes}
 use Rattle.analysis_model.specs.Job.{status}
 use Rattle.analysis_model.specs.Report.{text}
 use Rattle.after_cli.specs.Inputs.{image_max, script_max, IsRead, IsTooLong, AreNotBuilt, HaveFailed, is_elf}
@@ -48,9 +47,9 @@ module _ (content : Option Contents) (words : List (List ℕ)) (file : List ℕ)
       omega arith
 
   not_failed : (image script : List ℕ) (before now : ℕ) → NamesRun words image script → (Rose before now → ⊥) → HaveFailed content image script before now → ⊥
-  not_failed image script before now named stays (inl counted) = stays (Rose-raised before now counted)
-  not_failed image script before now named stays (inr (same, inl absent)) = not_absent image file (image_here image script named) absent
-  not_failed image script before now named stays (inr (same, inr (bytes, read, absent))) = not_absent script [] (script_here image script named) absent
+  not_failed image script before now named stays (inl rose) = stays rose
+  not_failed image script before now named stays (inr (inl absent)) = not_absent image file (image_here image script named) absent
+  not_failed image script before now named stays (inr (inr (bytes, read, absent))) = not_absent script [] (script_here image script named) absent
 
   not_foreign : (image script : List ℕ) → NamesRun words image script → AreNotBuilt content image script → ⊥
   not_foreign image script named (inl long) = not_too_long image file image_max (image_here image script named) run.within long
@@ -60,15 +59,15 @@ module _ (content : Option Contents) (words : List (List ℕ)) (file : List ℕ)
       let both : ◌≡◌ true false = sym header ∙ ap is_elf same ∙ run.headless in
       absurd (cc)
 
-  -- only the whole text, or want of memory, is left
-  pub complete : {S : Type 0} (before now : ℕ) (holds : S → List ℕ → Type 0) (faults : S → ℕ) (old new : S) (a : Answer) → Means content words before now holds faults old new a
-      → (Rose before now → ⊥) → (Rose (faults old) (faults new) → ⊥) → IsWhole holds old new (number_of a) file
-  complete before now holds faults old new (Done number closing) m files_stay out_stays =
-      let d = m.0 in
+  -- only the whole text, or no memory, is left
+  pub complete : {S : Type 0} (before now : ℕ) (sink : Telling S) (old new : S) (a : Answer) → Means content words before now sink old new a
+      → (Rose before now → ⊥) → (Rose (sink.faults old) (sink.faults new) → ⊥) → IsWhole sink old new (number_of a) file
+  complete before now sink old new (Done number closing) m files_stay out_stays =
+      let d = m in
       let same : d.file ≡ file = same_file d.run.image d.run.script d.file image_max d.run.named d.run.inputs.image_read in
-      inr (subst (λ (f : List ℕ). Adds holds old new (text (default_job f))) same d.written, d.status_is ∙ ap (λ (f : List ℕ). status (default_job f)) same)
-  complete before now holds faults old new FilesFailed m files_stay out_stays = absurd (not_failed m.0.image m.0.script before now m.0.named files_stay m.0.failed)
-  complete before now holds faults old new (OutputFailed closing) m files_stay out_stays = absurd (out_stays (Rose-raised (faults old) (faults new) m.0.counted))
-  complete before now holds faults old new NoMemory m files_stay out_stays = inl refl
-  complete before now holds faults old new NotBuilt m files_stay out_stays =
+      inr (subst (λ (f : List ℕ). Writes sink old new (text (default_job f))) same d.written, d.status_is ∙ ap (λ (f : List ℕ). status (default_job f)) same)
+  complete before now sink old new FilesFailed m files_stay out_stays = absurd (not_failed m.0.image m.0.script before now m.0.named files_stay m.0.failed)
+  complete before now sink old new (OutputFailed closing) m files_stay out_stays = absurd (out_stays m.written.rose)
+  complete before now sink old new NoMemory m files_stay out_stays = inl refl
+  complete before now sink old new NotBuilt m files_stay out_stays =
       ⊎_elim (λ no_run. absurd (no_run run.image run.script run.named)) (λ foreign. absurd (not_foreign foreign.image foreign.script foreign.named foreign.not_built)) m.0

@@ -1,8 +1,7 @@
 -- What the top call answers, and the cause of each answer.
 use Rattle.std.specs.Prelude.{◌≡◌, ◌⊎◌, ◌≤◌, ℕ, ◌==◌, false, List, [], length, Option, Some, codes, if◌then◌else◌, IsSomeAnd}
-use Rattle.after_edge.specs.Fault.{raised}
 use Rattle.after_edge.specs.Files.{Contents}
-use Rattle.after_edge.specs.Sink.{Adds, AddsPart}
+use Rattle.after_edge.specs.Sink.{Telling, Writes, WritesPart}
 use Rattle.analysis_model.specs.Job.{status}
 use Rattle.analysis_model.specs.Report.{line, text}
 use Rattle.after_cli.specs.Inputs.{image_max, AreInputs, AreNotBuilt, HaveFailed, is_elf}
@@ -18,25 +17,23 @@ pub record IsRunOf (content : Option Contents) (words : List (List ℕ)) (file :
   pub named : NamesRun words image script
   pub inputs : AreInputs content image script file
 
--- 0, 1, 8, 11: a run was done. The bytes added to the output are the text of its job, no more and no less, its count of
--- failed puts is as before, the status is the job's, and the closing holds the job's whole log, which was taken, each
+-- 0, 1, 8, 11: a run was done. The bytes added to the output are the text of its job, no more and no less, the status
+-- is the job's, and the closing holds the job's whole log, which was taken, each
 -- record once and in order.
-pub record IsDone {S : Type 0} (content : Option Contents) (words : List (List ℕ)) (holds : S → List ℕ → Type 0) (faults : S → ℕ) (old new : S) (number : ℕ) (closing : Option Closing) : Type 0 where
+pub record IsDone {S : Type 0} (content : Option Contents) (words : List (List ℕ)) (sink : Telling S) (old new : S) (number : ℕ) (closing : Option Closing) : Type 0 where
   pub file : List ℕ
   pub run : IsRunOf content words file
-  pub written : Adds holds old new (text (default_job file))
-  pub quiet : faults new ≡ faults old
+  pub written : Writes sink old new (text (default_job file))
   pub status_is : number ≡ status (default_job file)
   pub closing_is : IsSomeAnd closing (IsWholeRun (default_job file))
 
--- 6: the output's count was raised by one, and some front of the job's text was added; the closing holds a front of the job's log,
+-- 6: the output's count rose, and some prefix of the job's text was added; the closing holds a prefix of the job's log,
 -- which was taken, each record once and in order, and the whole log where the report had begun
-pub record OutputHasFailed {S : Type 0} (content : Option Contents) (words : List (List ℕ)) (holds : S → List ℕ → Type 0) (faults : S → ℕ) (old new : S) (closing : Option Closing) : Type 0 where
+pub record OutputHasFailed {S : Type 0} (content : Option Contents) (words : List (List ℕ)) (sink : Telling S) (old new : S) (closing : Option Closing) : Type 0 where
   pub file : List ℕ
   pub run : IsRunOf content words file
-  pub written : AddsPart holds old new (text (default_job file))
-  pub counted : faults new ≡ raised (faults old)
-  pub closing_is : IsSomeAnd closing (IsCutRun holds old new (default_job file))
+  pub written : WritesPart sink old new (text (default_job file))
+  pub closing_is : IsSomeAnd closing (IsCutRun sink old new (default_job file))
 
 -- 5: the files of a run failed, or they tell that one is absent
 pub record FilesHaveFailed (content : Option Contents) (words : List (List ℕ)) (before now : ℕ) : Type 0 where
@@ -76,10 +73,9 @@ line_of number =
     else if number == 10 then line (codes "not built")
     else []
 
--- the line was added, or the sink failed and some front of it was added
-abbrev pub TellsLine : {S : Type 0} → (S → List ℕ → Type 0) → (S → ℕ) → S → S → List ℕ → Type 0
-TellsLine holds faults old new told =
-    (Adds holds old new told × (faults new ≡ faults old)) ⊎ (AddsPart holds old new told × (faults new ≡ raised (faults old)))
+-- the line was added, or the sink's count rose and some prefix of the line was added
+abbrev pub TellsLine : {S : Type 0} → Telling S → S → S → List ℕ → Type 0
+TellsLine sink old new told = Writes sink old new told ⊎ WritesPart sink old new told
 
 -- the files tell the content of a run that is built, whose guest is this file
 pub record IsToldRun (content : Option Contents) (words : List (List ℕ)) (file : List ℕ) : Type 0 where
@@ -93,6 +89,6 @@ pub record IsToldRun (content : Option Contents) (words : List (List ℕ)) (file
   pub headless : is_elf file ≡ false
   pub script_is : files script ≡ Some []
 
--- the whole text of the job was added, and the status is the job's; or memory was wanting
-abbrev pub IsWhole : {S : Type 0} → (S → List ℕ → Type 0) → S → S → ℕ → List ℕ → Type 0
-IsWhole holds old new number file = (number ≡ 9) ⊎ (Adds holds old new (text (default_job file)) × (number ≡ status (default_job file)))
+-- the whole text of the job was added, and the status is the job's; or there was no memory
+abbrev pub IsWhole : {S : Type 0} → Telling S → S → S → ℕ → List ℕ → Type 0
+IsWhole sink old new number file = (number ≡ 9) ⊎ (Writes sink old new (text (default_job file)) × (number ≡ status (default_job file)))

@@ -2,7 +2,7 @@
 use Rattle.std.specs.Prelude.{◌≡◌, ◌⊎◌, ◌≤◌, ℕ, ◌==◌, ◌&&◌, Bool, true, false, List, [], ◌∷◌, length, Option, Some}
 use Rattle.after_edge.specs.declared.reading.FileFault.{FileFault}
 use Rattle.after_edge.specs.declared.reading.FileFault.TheVariants as fault
-use Rattle.after_edge.specs.Fault.{raised}
+use Rattle.after_edge.specs.Fault.{Rose}
 use Rattle.after_edge.specs.Files.{Contents, IfTold, IsAbsent}
 use Rattle.after_edge.specs.Reading.{IsLonger}
 use Rattle.after_cli.specs.declared.inputs.Refusal.{Refusal}
@@ -35,11 +35,10 @@ pub record AreInputs (content : Option Contents) (image script file : List ℕ) 
   pub script_read : IsRead content script script_max []
   pub headless : is_elf file ≡ false
 
--- the files failed: their count was raised, or they tell that the image is absent, or, the image being read, that the
--- script is, and it was not
+-- the files failed: their count rose, or they tell that the image is absent, or, the image being read, that the script is
 abbrev pub HaveFailed : Option Contents → List ℕ → List ℕ → ℕ → ℕ → Type 0
 HaveFailed content image script before now =
-    (now ≡ raised before) ⊎ ((now ≡ before) × (IsAbsent content image ⊎ ((file : List ℕ) × IsRead content image image_max file × IsAbsent content script)))
+    Rose before now ⊎ IsAbsent content image ⊎ ((file : List ℕ) × IsRead content image image_max file × IsAbsent content script)
 
 -- the files are not those of a run that is built: the image is too long, or, the image being read, the script is not
 -- empty, or, both being read, the image has a header
@@ -49,11 +48,11 @@ AreNotBuilt content image script =
     ⊎ ((file : List ℕ) × IsRead content image image_max file × IsTooLong content script script_max)
     ⊎ ((file : List ℕ) × IsRead content image image_max file × IsRead content script script_max [] × (is_elf file ≡ true))
 
--- when each refusal of the inputs may come, and what is counted then; want of memory has no cause
+-- when each refusal of the inputs may come; no memory has no cause
 abbrev pub HasRefusalCause : Option Contents → List ℕ → List ℕ → ℕ → ℕ → Refusal → Type 0
 HasRefusalCause content image script before now FilesFailed = HaveFailed content image script before now
-HasRefusalCause content image script before now NotBuilt = AreNotBuilt content image script × (now ≡ before)
-HasRefusalCause content image script before now NoMemory = now ≡ before
+HasRefusalCause content image script before now NotBuilt = AreNotBuilt content image script
+HasRefusalCause content image script before now NoMemory = Unit {0}
 
 abbrev pub refusal_of : FileFault → Refusal
 refusal_of fault.Absent = FilesFailed

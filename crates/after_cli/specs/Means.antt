@@ -1,6 +1,7 @@
 -- What each answer of the call's inside means.
 use Rattle.std.specs.Prelude.{◌≡◌, ℕ, List, Option, Some, None}
 use Rattle.after_edge.specs.Files.{Contents}
+use Rattle.after_edge.specs.Sink.{Telling}
 use Rattle.after_cli.specs.declared.top.Answer.{Answer}
 use Rattle.after_cli.specs.declared.top.Answer.TheVariants.{Done, FilesFailed, OutputFailed, NoMemory, NotBuilt}
 use Rattle.guard_run.specs.declared.closing.Closing.{Closing}
@@ -25,13 +26,13 @@ closing_in FilesFailed = None
 closing_in NoMemory = None
 closing_in NotBuilt = None
 
--- what each answer says of the words, the files and the output, and of the count of the files
-abbrev pub Means : {S : Type 0} → Option Contents → List (List ℕ) → ℕ → ℕ → (S → List ℕ → Type 0) → (S → ℕ) → S → S → Answer → Type 0
-Means content words before now holds faults old new (Done status closing) = IsDone content words holds faults old new status (Some closing) × (now ≡ before)
-Means content words before now holds faults old new FilesFailed = FilesHaveFailed content words before now × (new ≡ old)
-Means content words before now holds faults old new (OutputFailed closing) = OutputHasFailed content words holds faults old new (Some closing) × (now ≡ before)
-Means content words before now holds faults old new NoMemory = (new ≡ old) × (now ≡ before)
-Means content words before now holds faults old new NotBuilt = IsNotBuilt content words × (new ≡ old) × (now ≡ before)
+-- what each answer says of the words, the files and the output
+abbrev pub Means : {S : Type 0} → Option Contents → List (List ℕ) → ℕ → ℕ → Telling S → S → S → Answer → Type 0
+Means content words before now sink old new (Done status closing) = IsDone content words sink old new status (Some closing)
+Means content words before now sink old new FilesFailed = FilesHaveFailed content words before now × (new ≡ old)
+Means content words before now sink old new (OutputFailed closing) = OutputHasFailed content words sink old new (Some closing)
+Means content words before now sink old new NoMemory = new ≡ old
+Means content words before now sink old new NotBuilt = IsNotBuilt content words × (new ≡ old)
 
 -- the answer that a job's end gives
 abbrev pub answer_of : JobEnd → Answer

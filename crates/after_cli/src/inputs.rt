@@ -51,7 +51,6 @@ pub fn read_inputs<F: Files>(
     ensures ok { IfOk result (λ file. AreInputs (F.content files.old) image.now script.now file.items) }
     ensures cause { IfErr result (HasRefusalCause (F.content files.old) image.now script.now (F.faults files.old) (F.faults files.new)) }
     ensures same { F.content files.new ≡ F.content files.old }
-    ensures quiet { OnOk result (F.faults files.new ≡ F.faults files.old) }
 {
     let file = match read_all(alloc, files, image, IMAGE_MAX) {
         Ok(file) => file,

@@ -1,7 +1,6 @@
 //! A job from its opening to its report.
 ghost use Rattle.std.specs.Prelude.{is_err, ◌≡◌, ◌*◌, ◌≤◌, ◌++◌, List, is_some, length, IfOk, OnOk, OnErr};
-ghost use Rattle.after_edge.specs.Fault.{Counted};
-ghost use Rattle.after_edge.specs.Sink.{Adds, AddsPart};
+ghost use Rattle.after_edge.specs.Sink.{Telling, Writes, WritesPart};
 ghost use Rattle.run_events.specs.declared.event.Event.{Event};
 ghost use Rattle.machine_model.specs.Image.{flat_image};
 ghost use Rattle.analysis_model.specs.Job.{status_of};
@@ -28,7 +27,7 @@ use std::alloc::Global;
 pub enum JobEnd {
     /// The run was done, and the job's whole text was written.
     Done { status: u8, closing: Closing },
-    /// A put of the output failed. Some front of the job's text was written.
+    /// A put of the output failed. Some prefix of the job's text was written.
     OutputFailed { closing: Closing },
     /// There was no memory to open it. Nothing was written.
     NoMemory,
@@ -56,9 +55,8 @@ fn open(alloc: Global, file: Vec<u8>, ram_kib: u32, limit: u32) -> Result<Parts,
 
 // Writes the report of a run that an analysis has seen.
 fn report<O: Sink>(facts: &RunFacts, analysis: &AnyAnalysis, out: &mut O) -> Result<(), Failed>
-    ensures ok { OnOk result ((h : List Event) → HasSeen analysis.now h → Adds O.holds out.old out.new (head_text (facts_of facts.now) ++ part_text (code_made_of (made_of analysis.now)) h (kind_made_of (made_of analysis.now)))) }
-    ensures err { OnErr result ((h : List Event) → HasSeen analysis.now h → AddsPart O.holds out.old out.new (head_text (facts_of facts.now) ++ part_text (code_made_of (made_of analysis.now)) h (kind_made_of (made_of analysis.now)))) }
-    ensures counted { Counted (is_err result) (O.faults out.old) (O.faults out.new) }
+    ensures ok { OnOk result ((h : List Event) → HasSeen analysis.now h → Writes O.told out.old out.new (head_text (facts_of facts.now) ++ part_text (code_made_of (made_of analysis.now)) h (kind_made_of (made_of analysis.now)))) }
+    ensures err { OnErr result ((h : List Event) → HasSeen analysis.now h → WritesPart O.told out.old out.new (head_text (facts_of facts.now) ++ part_text (code_made_of (made_of analysis.now)) h (kind_made_of (made_of analysis.now)))) }
 {
     match report_head(facts, out) {
         Ok(()) => {}
@@ -86,9 +84,8 @@ fn status_number(end: EndCause, first: Option<u32>) -> u8
 fn tell<O: Sink>(closing: &Closing, out: &mut O) -> Result<u8, Failed>
     requires { HasCourse closing.now }
     ensures status { IfOk result (λ number. (c : Course) → IsCourse c → ClosesWhole c closing.now → number ≡ status_at c) }
-    ensures ok { OnOk result ((c : Course) → IsCourse c → ClosesWhole c closing.now → Adds O.holds out.old out.new (report_text c)) }
-    ensures err { OnErr result ((c : Course) → IsCourse c → ClosesWhole c closing.now → AddsPart O.holds out.old out.new (report_text c)) }
-    ensures counted { Counted (is_err result) (O.faults out.old) (O.faults out.new) }
+    ensures ok { OnOk result ((c : Course) → IsCourse c → ClosesWhole c closing.now → Writes O.told out.old out.new (report_text c)) }
+    ensures err { OnErr result ((c : Course) → IsCourse c → ClosesWhole c closing.now → WritesPart O.told out.old out.new (report_text c)) }
 {
     let Some(facts) = closing.facts() else {
         unreachable!()
@@ -113,7 +110,7 @@ pub fn run_job<O: Sink>(
     requires most { ram_kib ≤ 16384 }
     requires fits { length file.items ≤ 1024 * ram_kib }
     requires steps { limit ≤ 1000000000 }
-    ensures { JobEnds O.holds O.faults out.old out.new (cover_job file.items ram_kib limit) result }
+    ensures { JobEnds O.told out.old out.new (cover_job file.items ram_kib limit) result }
 {
     let mut parts = match open(alloc, file, ram_kib, limit) {
         Ok(parts) => parts,

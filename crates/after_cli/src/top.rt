@@ -86,7 +86,7 @@ fn answer_words<F: Files, O: Sink>(
     files: &mut F,
     out: &mut O,
 ) -> Answer
-    ensures means { Means (F.content files.old) (map string_bytes words.now) (F.faults files.old) (F.faults files.new) O.holds O.faults out.old out.new result }
+    ensures means { Means (F.content files.old) (map string_bytes words.now) (F.faults files.old) (F.faults files.new) O.told out.old out.new result }
     ensures same { F.content files.new ≡ F.content files.old }
 {
     let Some(run) = run_words(words) else {
@@ -102,7 +102,7 @@ fn answer_words<F: Files, O: Sink>(
 // Writes the line of a status, if it has one. A failure to write it changes nothing else.
 #[tactic(auto, unfolding(crate::specs::Answer::line_of))]
 fn tell_status<E: Sink>(status: u8, err: &mut E)
-    ensures told { TellsLine E.holds E.faults err.old err.new (line_of status) }
+    ensures told { TellsLine E.told err.old err.new (line_of status) }
     ensures quiet { IsOfDone status → err.new ≡ err.old }
 {
     let line: &[u8] = match status {
@@ -119,7 +119,7 @@ fn tell_status<E: Sink>(status: u8, err: &mut E)
 pub fn end_with<E: Sink>(status: u8, err: &mut E) -> Outcome
     ensures status { result.status ≡ status }
     ensures closing { result.closing ≡ None }
-    ensures told { TellsLine E.holds E.faults err.old err.new (line_of status) }
+    ensures told { TellsLine E.told err.old err.new (line_of status) }
     ensures quiet { IsOfDone status → err.new ≡ err.old }
 {
     tell_status(status, err);
@@ -137,8 +137,8 @@ pub fn end_with<E: Sink>(status: u8, err: &mut E) -> Outcome
 /// - 0, 1, 8, 11: the run was done, and `out` got the job's whole text. 0 after power with no finding, 1 with a finding,
 ///   8 after the step limit with no finding, 11 where the run came to a step that is not built yet.
 /// - 5: a file is absent, or `files` failed. Nothing was added to `out`.
-/// - 6: a put of `out` failed. Some front of the job's text was added.
-/// - 9: want of memory; no clause says when it comes. Nothing was added to `out`.
+/// - 6: a put of `out` failed, and its count of faults rose. Some prefix of the job's text was added.
+/// - 9: no memory; no clause says when it comes. Nothing was added to `out`.
 /// - 10: the words or the files are not those of a run that is built. Nothing was added to `out`.
 ///
 /// `closing` is there exactly where a run was opened: with the statuses of a run that was done, and with 6. It holds the
@@ -157,25 +157,24 @@ pub fn aftersight_plain<F: Files, O: Sink, E: Sink>(
 
     // The run was done: what was added to the output is the text of its job, the status is the job's, and the closing
     // holds the job's log, which the replica has taken, each record once and in order.
-    ensures done { IsOfDone result.status → IsDone (F.content files.old) (map string_bytes words.now) O.holds O.faults out.old out.new result.status result.closing }
+    ensures done { IsOfDone result.status → IsDone (F.content files.old) (map string_bytes words.now) O.told out.old out.new result.status result.closing }
 
     // Each other status has its cause.
-    ensures output_failed { result.status ≡ 6 → OutputHasFailed (F.content files.old) (map string_bytes words.now) O.holds O.faults out.old out.new result.closing }
+    ensures output_failed { result.status ≡ 6 → OutputHasFailed (F.content files.old) (map string_bytes words.now) O.told out.old out.new result.closing }
     ensures files_failed { result.status ≡ 5 → FilesHaveFailed (F.content files.old) (map string_bytes words.now) (F.faults files.old) (F.faults files.new) }
     ensures not_built { result.status ≡ 10 → IsNotBuilt (F.content files.old) (map string_bytes words.now) }
 
     // Where the files tell the content of a run, and neither they nor the output fail, that run is done.
     ensures complete { (file : List ℕ) → IsToldRun (F.content files.old) (map string_bytes words.now) file
-        → ¬ Rose (F.faults files.old) (F.faults files.new) → ¬ Rose (O.faults out.old) (O.faults out.new)
-        → IsWhole O.holds out.old out.new result.status file }
+        → ¬ Rose (F.faults files.old) (F.faults files.new) → ¬ Rose (O.told.faults out.old) (O.told.faults out.new)
+        → IsWhole O.told out.old out.new result.status file }
 
     // What stands afterwards.
     ensures refused { IsOfRefusal result.status → out.new ≡ out.old }
     ensures unopened { IsOfRefusal result.status → result.closing ≡ None }
-    ensures told { TellsLine E.holds E.faults err.old err.new (line_of result.status) }
+    ensures told { TellsLine E.told err.old err.new (line_of result.status) }
     ensures quiet { IsOfDone result.status → err.new ≡ err.old }
     ensures files { F.content files.new ≡ F.content files.old }
-    ensures files_quiet { ¬ (result.status ≡ 5) → F.faults files.new ≡ F.faults files.old }
 {
     let answer = answer_words(alloc, words, files, out);
     let status = answer.status();

@@ -6,7 +6,7 @@ use Rattle.after_edge.specs.Sink.{Telling, Adds, Writes, WritesPart}
 use Rattle.after_edge.proofs.FaultLaws.{Rose-later}
 
 -- one more piece after
-Adds-then : {S : Type 0} (holds : S → List ℕ → Type 0) (a b c : S) (p q : List ℕ) → Adds holds a b p → Adds holds b c q → Adds holds a c (p ++ q)
+pub Adds-then : {S : Type 0} (holds : S → List ℕ → Type 0) (a b c : S) (p q : List ℕ) → Adds holds a b p → Adds holds b c q → Adds holds a c (p ++ q)
 Adds-then holds a b c p q first second held h =
     let P : List ℕ → Type 0 = λ l. holds c l in subst P (append_assoc held p q) (second (held ++ p) (first held h))
 

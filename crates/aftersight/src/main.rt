@@ -3,8 +3,7 @@
 
 ghost use Rattle.std.specs.Prelude.{◌≡◌, ◌⊎◌};
 ghost use Rattle.after_cli.specs.Answer.{TellsLine, line_of};
-ghost use Rattle.after_edge.specs.Fault.{raised};
-ghost use Rattle.after_edge.specs.Sink.{Adds, AddsPart};
+ghost use Rattle.after_edge.specs.Sink.{Writes, WritesPart};
 
 mod command_line;
 
@@ -16,9 +15,9 @@ use std::process::ExitCode;
 // Writes a text that stands for itself: status 0, or 6 where the output failed.
 fn show<O: Sink, E: Sink>(text: &str, out: &mut O, err: &mut E) -> Outcome
     ensures status { (result.status ≡ 0) ⊎ (result.status ≡ 6) }
-    ensures shown { result.status ≡ 0 → Adds O.holds out.old out.new text.now × (O.faults out.new ≡ O.faults out.old) }
-    ensures failed { result.status ≡ 6 → AddsPart O.holds out.old out.new text.now × (O.faults out.new ≡ raised (O.faults out.old)) }
-    ensures told { TellsLine E.holds E.faults err.old err.new (line_of result.status) }
+    ensures shown { result.status ≡ 0 → Writes O.told out.old out.new text.now }
+    ensures failed { result.status ≡ 6 → WritesPart O.told out.old out.new text.now }
+    ensures told { TellsLine E.told err.old err.new (line_of result.status) }
     ensures quiet { result.status ≡ 0 → err.new ≡ err.old }
 {
     match out.put(text.as_bytes()) {

@@ -1,12 +1,13 @@
 -- A run that has come to its end, and one that a failed put has ended.
 use Rattle.std.proofs.Common.{◌≡◌, ◌⊎◌, inl, inr, ℕ, ◌≤◌, true, false, List, ◌++◌, length, take, drop, Option, Some, None, sym, ap, subst, ◌∙◌, arith, take-append-drop, true≢false}
 use Rattle.std.specs.Prelude.{nat_lt}
-use Rattle.std.proofs.lemmas.List.{map-append, length-map, length-drop, take_all, take-take}
+use Rattle.std.proofs.lemmas.List.{map-append, length-map, length-drop, length-take-le, take_all, take-take}
 use Rattle.std.proofs.lemmas.List.Elements.{filter-append}
-use Rattle.after_edge.specs.Sink.{Adds}
-use Rattle.after_edge.proofs.SinkLaws.{Adds-same, Adds-then}
+use Rattle.after_edge.specs.Sink.{Telling, Adds, Writes}
+use Rattle.after_edge.proofs.SinkLaws.{Adds-then, Writes-same, Writes-then}
+use Rattle.after_edge.proofs.FaultLaws.{Rose-later}
 use Rattle.list_laws.specs.Prefix.{IsPrefix}
-use Rattle.list_laws.proofs.PrefixLaws.{IsPrefix-map, IsPrefix-take}
+use Rattle.list_laws.proofs.PrefixLaws.{IsPrefix-length, IsPrefix-map, IsPrefix-take}
 use Rattle.analysis_model.specs.Job.{before_step}
 use Rattle.gate_core.specs.Core.{CoreState, Break, Close, after_event, IsSound}
 use Rattle.gate_core.specs.Hub.{HubState, with_close}
@@ -63,8 +64,8 @@ module _ (c : Course) (core : CoreState) (parts : Parts) (idle : IsIdle c core p
       ∙ take_all core.released (kept parts.gate.from (issued_by c core.appended)) (omega (arith, long))
       ∙ kept_is
 
-  pub has_ended : {S : Type 0} (holds : S → List ℕ → Type 0) (old new : S) → Adds holds old new (bytes_between c 0 core.released) → HasEnded c parts holds old new
-  has_ended holds old new put = record {
+  pub has_ended : {S : Type 0} (sink : Telling S) (old new : S) → Writes sink old new (bytes_between c 0 core.released) → HasEnded c parts sink old new
+  has_ended sink old new put = record {
     ended = record {
       core = core;
       at = idle.at;
@@ -73,7 +74,7 @@ module _ (c : Course) (core : CoreState) (parts : Parts) (idle : IsIdle c core p
       taken = idle.taken;
       released = long ∙ ap length kept_is ∙ sym (length-map (before_step (stop_of c) (output_of c)) (λ (byte : ℕ × ℕ). byte.1));
     };
-    put = Adds-same holds old new (ap bytes_in released_is) put;
+    put = Writes-same sink old new (ap bytes_in released_is) put;
   }
 
 -- the bytes that a sound core has released are the first of those that the analysis lets out of the appended records
@@ -107,39 +108,46 @@ released_by_IsPrefix c is count =
     })
 
 -- the bytes that two rounds have put
-pub put_then : (c : Course) (core next : CoreState) {S : Type 0} (holds : S → List ℕ → Type 0) (first old new : S) → core.released ≤ next.released → Adds holds first old (bytes_between c 0 core.released)
-    → Adds holds old new (bytes_between c core.released next.released) → Adds holds first new (bytes_between c 0 next.released)
-put_then c core next holds first old new more put added =
-    Adds-same holds first new (between-then c core.released next.released more) (Adds-then holds first old new (bytes_between c 0 core.released) (bytes_between c core.released next.released) put added)
+pub put_then : (c : Course) (core next : CoreState) {S : Type 0} (sink : Telling S) (first old new : S) → core.released ≤ next.released → Writes sink first old (bytes_between c 0 core.released)
+    → Writes sink old new (bytes_between c core.released next.released) → Writes sink first new (bytes_between c 0 next.released)
+put_then c core next sink first old new more put added =
+    Writes-same sink first new (between-then c core.released next.released more) (Writes-then sink first old new (bytes_between c 0 core.released) (bytes_between c core.released next.released) put added)
 
 -- where the core stands after a round whose put failed
-abbrev pub broken_core : {S : Type 0} (c : Course) (core : CoreState) (round : Parts) (holds : S → List ℕ → Type 0) (old new : S) → HasBrokenRound c core round holds old new → CoreState
-broken_core c core round holds old new r = after_event (plan_of c) r.next (Break r.breaks.count r.breaks.done)
+abbrev pub broken_core : {S : Type 0} (c : Course) (core : CoreState) (round : Parts) (sink : Telling S) (old new : S) → HasBrokenRound c core round sink old new → CoreState
+broken_core c core round sink old new r = after_event (plan_of c) r.next (Break r.breaks.count r.breaks.done)
 
 -- after a put that failed
-pub has_stopped : (c : Course) (core : CoreState) (round : Parts) (parts : Parts) {S : Type 0} (holds : S → List ℕ → Type 0) (first old new : S) → Adds holds first old (bytes_between c 0 core.released)
-    → (r : HasBrokenRound c core round holds old new) → IsReadOut c (broken_core c core round holds old new r) parts → HasStopped c parts holds first new
-has_stopped c core round parts holds first old new put r out = record {
-  stopped = record { core = out.last; broken = out.broken; closed = out.closed; taken = out.taken };
-  put =
-      let b = r.breaks in
-      let last = broken_core c core round holds old new r in
-      let added : Adds holds old new (bytes_between c core.released last.released) = subst (λ n. Adds holds old new (bytes_between c n last.released)) r.released b.put in
-      let appended : parts.hub.appended ≡ last.appended = (λ i. (out.broken.follows.stands i).appended) ∙ out.same in
-      record {
-        front = bytes_between c 0 last.released;
-        is_front = subst (λ n. IsPrefix (bytes_between c 0 last.released) (released_by c n)) (sym appended) (released_front c last out.broken.follows.course b.broken.follows.sound b.broken.there);
-        added = put_then c core last holds first old new (omega (arith, r.released)) put added;
+pub has_stopped : (c : Course) (core : CoreState) (round : Parts) (parts : Parts) {S : Type 0} (sink : Telling S) (first old new : S) → Writes sink first old (bytes_between c 0 core.released)
+    → (r : HasBrokenRound c core round sink old new) → IsReadOut c (broken_core c core round sink old new r) parts → HasStopped c parts sink first new
+has_stopped c core round parts sink first old new put r out =
+    let b = r.breaks in
+    let last = broken_core c core round sink old new r in
+    let added : Adds sink.holds old new (bytes_between c core.released last.released) = subst (λ n. Adds sink.holds old new (bytes_between c n last.released)) r.released b.put in
+    let appended : parts.hub.appended ≡ last.appended = (λ i. (out.broken.follows.stands i).appended) ∙ out.same in
+    let more : core.released ≤ last.released = omega (arith, r.released) in
+    let joined : bytes_between c 0 core.released ++ bytes_between c core.released last.released ≡ bytes_between c 0 last.released = between-then c core.released last.released more in
+    let long : length (bytes_between c 0 last.released) ≡ last.released =
+    length-map (take last.released (output_of c)) (λ (byte : ℕ × ℕ). byte.1)
+    ∙ length-take-le last.released (output_of c) (omega (arith, b.broken.there, IsPrefix-length (issued_by c last.appended) (output_of c) (issued_IsPrefix c out.broken.follows.course last.appended))) in
+    record {
+      stopped = record { core = out.last; broken = out.broken; closed = out.closed; taken = out.taken };
+      put = record {
+        part = bytes_between c 0 last.released;
+        is_prefix = subst (λ n. IsPrefix (bytes_between c 0 last.released) (released_by c n)) (sym appended) (released_front c last out.broken.follows.course b.broken.follows.sound b.broken.there);
+        added = subst (Adds sink.holds first new) joined (Adds-then sink.holds first old new (bytes_between c 0 core.released) (bytes_between c core.released last.released) put.added added);
+        rose = Rose-later (sink.faults first) (sink.faults old) (sink.faults new) put.kept b.rose;
       };
-}
+      counted = omega (arith, long, out.broken.released, out.still);
+    }
 
 -- between two rounds once more
-pub on_then : (c : Course) (core next : CoreState) (parts : Parts) → IsIdle c next parts → {S : Type 0} (holds : S → List ℕ → Type 0) (first old new : S) → core.released ≤ next.released → Adds holds first old (bytes_between c 0 core.released)
-    → Adds holds old new (bytes_between c core.released next.released) → IsOnItsWay c parts holds first new
-on_then c core next parts idle holds first old new more put added = record {
+pub on_then : (c : Course) (core next : CoreState) (parts : Parts) → IsIdle c next parts → {S : Type 0} (sink : Telling S) (first old new : S) → core.released ≤ next.released → Writes sink first old (bytes_between c 0 core.released)
+    → Writes sink old new (bytes_between c core.released next.released) → IsOnItsWay c parts sink first new
+on_then c core next parts idle sink first old new more put added = record {
   core = next;
   idle = idle;
-  put = put_then c core next holds first old new more put added;
+  put = put_then c core next sink first old new more put added;
 }
 
 -- the same run with another hub

@@ -101,7 +101,7 @@ module _ (c : Course) (is : IsCourse c) where
   pub no_item_left : (a : ℕ) → drop a (items (run_of c)) ≡ [] → length (log_of c) ≤ a
   no_item_left a none = omega (arith, ap length none, length-drop a (items (run_of c)), length_log)
 
-  -- the log holds marks and an end alone
+  -- the log sink marks and an end alone
   pub each_taken : (a : ℕ) (item : Record) → slice_get (log_of c) a ≡ Some item → is_taken item ≡ true
   each_taken a item at =
       let taken = All-weaker IsItem (λ i. is_taken i.item ≡ true) (λ i is. is.0) (items (run_of c)) (items_are (run_of c)) in

@@ -2,7 +2,7 @@
 use Rattle.std.proofs.Common.{◌≡◌, ◌⊎◌, inl, inr, ℕ, ◌+◌, ◌-◌, ◌<◌, true, false, cond, List, length, refl, sym, ap, subst, ◌∙◌, arith, true≢false}
 use Rattle.std.specs.Prelude.{min, slice_index}
 use Rattle.std.proofs.lemmas.List.{length-drop}
-use Rattle.after_edge.specs.Sink.{Adds}
+use Rattle.after_edge.specs.Sink.{Telling, Writes}
 use Rattle.machine_model.specs.Items.{items}
 use Rattle.gate_core.specs.Core.{CoreState, Append, Close, after_event, reached}
 use Rattle.gate_core.specs.Hub.{HubState}
@@ -118,13 +118,13 @@ caught_up c core parts r Closed hub replica turned = record {
 
 -- the gate's turn ends the round
 module _ (c : Course) (core : CoreState) (turn : Turn) (before parts after : Parts) (idle : IsIdle c core before) (up : IsCaughtUp c core turn parts) where
-  module _ {S : Type 0} (holds : S → List ℕ → Type 0) (old new : S) where
-    pub passed : HasReleased c up.next parts after holds old new → HasPassed c core turn before after holds old new
+  module _ {S : Type 0} (sink : Telling S) (old new : S) where
+    pub passed : HasReleased c up.next parts after sink old new → HasPassed c core turn before after sink old new
     passed r = record {
       next = with_released up.next r.count;
       idle = record { at = r.at; taken = up.taken; none = r.none up.taken };
       more = omega (arith, r.more, up.released);
-      put = subst (λ n. Adds holds old new (bytes_between c n r.count)) up.released r.put;
+      put = subst (λ n. Writes sink old new (bytes_between c n r.count)) up.released r.put;
       goes = by up.how;
     }
       where
@@ -132,5 +132,5 @@ module _ (c : Course) (core : CoreState) (turn : Turn) (before parts after : Par
         by (inl ended) = inl ended
         by (inr (took, less)) = inr (took, omega (arith, less, left_is c core before idle.at, left_is c (with_released up.next r.count) after r.at))
 
-    pub broken : HasBroken c up.next after holds old new → HasBrokenRound c core after holds old new
+    pub broken : HasBroken c up.next after sink old new → HasBrokenRound c core after sink old new
     broken r = record { next = up.next; released = up.released; breaks = r }

@@ -2,8 +2,8 @@
 use Rattle.std.proofs.Common.{◌≡◌, inr, ℕ, ◌+◌, ◌<◌, ◌≤◌, true, false, List, length, take, refl, sym, ap, subst, ◌∙◌, arith, ◌⊎◌, inl, Some, zero, suc, ◌-◌, true≢false, ltb-true, ltb-false, le_of_lt}
 use Rattle.std.specs.Prelude.{min, slice_index}
 use Rattle.std.proofs.Math.Nat.{min-eq_left}
-use Rattle.after_edge.specs.Sink.{Adds, AddsPart}
-use Rattle.after_edge.proofs.SinkLaws.{Adds-same, AddsPart-same}
+use Rattle.after_edge.specs.Sink.{Telling, Adds, Writes, WritesPart}
+use Rattle.after_edge.proofs.SinkLaws.{Writes-same, WritesPart-same}
 use Rattle.gate_core.specs.declared.verdict.Verdict.{Verdict}
 use Rattle.gate_core.specs.Core.{CoreState, Release, Break, May, IsReleasable, reached, IsSound}
 use Rattle.gate_core.specs.Hub.{verdict_at}
@@ -72,10 +72,10 @@ module _ (c : Course) (core : CoreState) (parts : Parts) (at : IsAt c core parts
             let all : count_below verdict.approved parts.gate.steps ≡ (core.released + count_below verdict.approved parts.gate.steps) - core.released = omega arith in
             inr (subst (λ m. IsReleasable (plan_of c) core m) all (releasable c at.follows.course core parts.gate at.gates verdict.approved approves at.follows.sound at.sound (omega (arith, some))))
 
-    module _ {S : Type 0} (holds : S → List ℕ → Type 0) (old new : S) where
+    module _ {S : Type 0} (sink : Telling S) (old new : S) where
       -- nothing is refused
-      pub released_on : verdict.refused ≡ false → Adds holds old new (take (count_below verdict.approved parts.gate.steps) parts.gate.bytes)
-          → HasReleased c core parts (with_gate parts (with_release parts.gate (count_below verdict.approved parts.gate.steps))) holds old new
+      pub released_on : verdict.refused ≡ false → Writes sink old new (take (count_below verdict.approved parts.gate.steps) parts.gate.bytes)
+          → HasReleased c core parts (with_gate parts (with_release parts.gate (count_below verdict.approved parts.gate.steps))) sink old new
       released_on passes added = record {
         count = core.released + count;
         exact = exact_count;
@@ -83,14 +83,14 @@ module _ (c : Course) (core : CoreState) (parts : Parts) (at : IsAt c core parts
         refused = λ refused. absurd (true≢false (sym refused ∙ ap (λ (v : Verdict). v.refused) (sym is) ∙ passes));
         more = omega arith;
         at = at_now (with_release parts.gate count) gates_now;
-        put = Adds-same holds old new (put_is c at.follows.course core parts.gate at.gates verdict.approved approves) added;
+        put = Writes-same sink old new (put_is c at.follows.course core parts.gate at.gates verdict.approved approves) added;
         none = λ all. none_waits c at.follows.course core parts.gate at.gates verdict.approved approves at.follows.sound.appended
             (subst (λ n. reached (plan_of c) n ≤ verdict.approved) all (lets_all passes));
       }
 
       -- the rest is withheld
-      pub released_last : verdict.refused ≡ true → Adds holds old new (take (count_below verdict.approved parts.gate.steps) parts.gate.bytes)
-          → HasReleased c core parts (with_gate parts (with_withheld (with_release parts.gate (count_below verdict.approved parts.gate.steps)) verdict.approved)) holds old new
+      pub released_last : verdict.refused ≡ true → Writes sink old new (take (count_below verdict.approved parts.gate.steps) parts.gate.bytes)
+          → HasReleased c core parts (with_gate parts (with_withheld (with_release parts.gate (count_below verdict.approved parts.gate.steps)) verdict.approved)) sink old new
       released_last refused added = record {
         count = core.released + count;
         exact = exact_count;
@@ -100,24 +100,25 @@ module _ (c : Course) (core : CoreState) (parts : Parts) (at : IsAt c core parts
         at = at_now (with_withheld (with_release parts.gate count) verdict.approved)
             (subst (λ step. Gates c (with_released core (core.released + count)) (with_withheld (with_release parts.gate count) step)) (sym (refuses_at refused))
             (after_withhold c at.follows.course (with_released core (core.released + count)) (with_release parts.gate count) gates_now sound_now));
-        put = Adds-same holds old new (put_is c at.follows.course core parts.gate at.gates verdict.approved approves) added;
+        put = Writes-same sink old new (put_is c at.follows.course core parts.gate at.gates verdict.approved approves) added;
         none = λ all. none_withheld c at.follows.course core parts.gate at.gates verdict.approved approves;
       }
 
       -- the put failed
-      pub broken_off : (gate : GateState) → gate ≡ with_failure parts.gate (count_below verdict.approved parts.gate.steps) → 1 ≤ count_below verdict.approved parts.gate.steps → AddsPart holds old new (take (count_below verdict.approved parts.gate.steps) parts.gate.bytes)
-          → HasBroken c core (with_gate parts gate) holds old new
+      pub broken_off : (gate : GateState) → gate ≡ with_failure parts.gate (count_below verdict.approved parts.gate.steps) → 1 ≤ count_below verdict.approved parts.gate.steps → WritesPart sink old new (take (count_below verdict.approved parts.gate.steps) parts.gate.bytes)
+          → HasBroken c core (with_gate parts gate) sink old new
       broken_off gate made some added =
           let plan = plan_of c in
-          let part : AddsPart holds old new (bytes_between c core.released (core.released + count)) = AddsPart-same holds old new (put_is c at.follows.course core parts.gate at.gates verdict.approved approves) added in
-          let front = between-front c core.released count part.front part.is_front in
-          let done = length part.front in
+          let part : WritesPart sink old new (bytes_between c core.released (core.released + count)) = WritesPart-same sink old new (put_is c at.follows.course core parts.gate at.gates verdict.approved approves) added in
+          let front = between-front c core.released count part.part part.is_prefix in
+          let done = length part.part in
           let may : May plan core (Break count done) = (releasable c at.follows.course core parts.gate at.gates verdict.approved approves at.follows.sound at.sound some, front.0) in
           record {
             count = count;
             done = done;
             may = may;
-            put = Adds-same holds old new front.1 part.added;
+            put = subst (Adds sink.holds old new) front.1 part.added;
+            rose = part.rose;
             uncounted = ap (λ (g : GateState). g.released) made ∙ at.gates.released;
             broken = record {
               follows = follows_on c core parts.hub parts.replica at.follows core.appended core.closed true (core.released + done) parts.hub at.follows.stands

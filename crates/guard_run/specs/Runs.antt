@@ -1,6 +1,7 @@
 -- A run under way, where the core stands, and what each turn makes of it.
 use Rattle.std.specs.Prelude.{◌≡◌, ◌⊎◌, ℕ, ◌+◌, ◌-◌, ◌≤◌, ◌<◌, Bool, true, false, if◌then◌else◌, List, [], ◌∷◌, length, take, drop, map, Some, is_some, slice_index}
-use Rattle.after_edge.specs.Sink.{Adds, AddsPart}
+use Rattle.after_edge.specs.Fault.{Rose}
+use Rattle.after_edge.specs.Sink.{Telling, Adds, Writes, WritesPart}
 use Rattle.run_events.specs.declared.finding.Kind.{Kind}
 use Rattle.machine_model.specs.Image.{Image}
 use Rattle.machine_model.specs.State.{started}
@@ -85,14 +86,14 @@ bytes_between c from to = map (λ (byte : ℕ × ℕ). byte.1) (drop from (take 
 
 -- A turn of the gate: it put exactly the waiting bytes whose steps the replica approves, as a release of the core where
 -- there were any, and from then on withholds what the replica refuses. Where the replica has taken all, none waits any more.
-pub record HasReleased {S : Type 0} (c : Course) (core : CoreState) (before after : Parts) (holds : S → List ℕ → Type 0) (old new : S) : Type 0 where
+pub record HasReleased {S : Type 0} (c : Course) (core : CoreState) (before after : Parts) (sink : Telling S) (old new : S) : Type 0 where
   pub count : ℕ
   pub exact : count ≡ core.released + count_below (slice_index core.approved 0) before.gate.steps
   pub event : (count ≡ core.released) ⊎ May (plan_of c) core (Release (count - core.released))
   pub refused : (verdict_of c (taken_by core)).refused ≡ true → after.gate.from ≡ Some (stop_of c)
   pub more : core.released ≤ count
   pub at : IsAt c (with_released core count) after
-  pub put : Adds holds old new (bytes_between c core.released count)
+  pub put : Writes sink old new (bytes_between c core.released count)
   pub none : taken_by core ≡ core.appended → after.gate.steps ≡ []
 
 -- what stands of a run whose put has failed
@@ -106,11 +107,12 @@ pub record IsBroken (c : Course) (core : CoreState) (parts : Parts) : Type 0 whe
 
 -- a put of bytes that may be released failed behind the first ones, which the sink got: a break of the core, of which the
 -- gate counts no byte as released
-pub record HasBroken {S : Type 0} (c : Course) (core : CoreState) (after : Parts) (holds : S → List ℕ → Type 0) (old new : S) : Type 0 where
+pub record HasBroken {S : Type 0} (c : Course) (core : CoreState) (after : Parts) (sink : Telling S) (old new : S) : Type 0 where
   pub count : ℕ
   pub done : ℕ
   pub may : May (plan_of c) core (Break count done)
-  pub put : Adds holds old new (bytes_between c core.released (core.released + done))
+  pub put : Adds sink.holds old new (bytes_between c core.released (core.released + done))
+  pub rose : Rose (sink.faults old) (sink.faults new)
   pub uncounted : after.gate.released ≡ core.released
   pub broken : IsBroken c (after_event (plan_of c) core (Break count done)) after
 
@@ -125,24 +127,25 @@ abbrev pub turns_left : Parts → ℕ
 turns_left parts = length (still_to_come parts.source) + (if parts.hub.closed then 0 else 1)
 
 -- a round of turns: the next bytes were put, and the replica has read to the close or the recorder came on
-pub record HasPassed {S : Type 0} (c : Course) (core : CoreState) (last : Turn) (before after : Parts) (holds : S → List ℕ → Type 0) (old new : S) : Type 0 where
+pub record HasPassed {S : Type 0} (c : Course) (core : CoreState) (last : Turn) (before after : Parts) (sink : Telling S) (old new : S) : Type 0 where
   pub next : CoreState
   pub idle : IsIdle c next after
   pub more : core.released ≤ next.released
-  pub put : Adds holds old new (bytes_between c core.released next.released)
+  pub put : Writes sink old new (bytes_between c core.released next.released)
   pub goes : ((last ≡ turn.Closed) × (next.closed ≡ true)) ⊎ ((last ≡ turn.Took) × (turns_left after < turns_left before))
 
 -- a round whose put failed, behind the turns of the recorder and the replica
-pub record HasBrokenRound {S : Type 0} (c : Course) (core : CoreState) (after : Parts) (holds : S → List ℕ → Type 0) (old new : S) : Type 0 where
+pub record HasBrokenRound {S : Type 0} (c : Course) (core : CoreState) (after : Parts) (sink : Telling S) (old new : S) : Type 0 where
   pub next : CoreState
   pub released : next.released ≡ core.released
-  pub breaks : HasBroken c next after holds old new
+  pub breaks : HasBroken c next after sink old new
 
 -- the log was closed where it stood
 pub record IsShut (c : Course) (core : CoreState) (after : Parts) : Type 0 where
   pub last : CoreState
   pub broken : IsBroken c last after
   pub same : last.appended ≡ core.appended
+  pub still : last.released ≡ core.released
   pub closed : last.closed ≡ true
 
 -- and the replica has taken all of it
@@ -150,6 +153,7 @@ pub record IsReadOut (c : Course) (core : CoreState) (after : Parts) : Type 0 wh
   pub last : CoreState
   pub broken : IsBroken c last after
   pub same : last.appended ≡ core.appended
+  pub still : last.released ≡ core.released
   pub closed : last.closed ≡ true
   pub taken : taken_by last ≡ last.appended
 
@@ -169,14 +173,16 @@ pub record IsStopped (c : Course) (parts : Parts) : Type 0 where
   pub closed : core.closed ≡ true
   pub taken : taken_by core ≡ core.appended
 
--- and what was put by then: all that the analysis lets out, or a front of what it lets out of the records in the log
-pub record HasEnded {S : Type 0} (c : Course) (parts : Parts) (holds : S → List ℕ → Type 0) (old new : S) : Type 0 where
+-- and what was put by then: all that the analysis lets out, or a prefix of what it lets out of the records in the log, of
+-- which the gate counts no more than was put
+pub record HasEnded {S : Type 0} (c : Course) (parts : Parts) (sink : Telling S) (old new : S) : Type 0 where
   pub ended : IsEnded c parts
-  pub put : Adds holds old new (released_bytes c)
+  pub put : Writes sink old new (released_bytes c)
 
-pub record HasStopped {S : Type 0} (c : Course) (parts : Parts) (holds : S → List ℕ → Type 0) (old new : S) : Type 0 where
+pub record HasStopped {S : Type 0} (c : Course) (parts : Parts) (sink : Telling S) (old new : S) : Type 0 where
   pub stopped : IsStopped c parts
-  pub put : AddsPart holds old new (released_by c parts.hub.appended)
+  pub put : WritesPart sink old new (released_by c parts.hub.appended)
+  pub counted : parts.gate.released ≤ length put.part
 
 -- some course is that of the run, before its first turn, between two rounds, or after a failed put
 pub record IsOpenedRun (parts : Parts) : Type 0 where
@@ -194,7 +200,7 @@ pub record IsBrokenRun (parts : Parts) : Type 0 where
   pub broken : IsBroken of core parts
 
 -- the run stands between two rounds, and the bytes that it has released were put
-pub record IsOnItsWay {S : Type 0} (c : Course) (parts : Parts) (holds : S → List ℕ → Type 0) (old new : S) : Type 0 where
+pub record IsOnItsWay {S : Type 0} (c : Course) (parts : Parts) (sink : Telling S) (old new : S) : Type 0 where
   pub core : CoreState
   pub idle : IsIdle c core parts
-  pub put : Adds holds old new (bytes_between c 0 core.released)
+  pub put : Writes sink old new (bytes_between c 0 core.released)

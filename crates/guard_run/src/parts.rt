@@ -1,6 +1,5 @@
 //! The parts of a run, and the turns of its recorder and its gate.
 ghost use Rattle.std.specs.Prelude.{is_err, ◌≡◌, ◌*◌, ◌%◌, ◌-◌, ◌<◌, ◌≤◌, ◌∷◌, ◌&&◌, [], true, false, length, is_some, IsTrue, IfOk, IfSome, OnOk, OnErr};
-ghost use Rattle.after_edge.specs.Fault.{Counted};
 ghost use Rattle.machine_model.specs.Image.{IsLoadable};
 ghost use Rattle.gate_core.specs.Core.{CoreState};
 ghost use Rattle.gate_core.specs.Hub.{is_cap};
@@ -100,9 +99,8 @@ impl Parts {
     // A turn of the gate: it releases below what the replica approves, and withholds from there on where it refuses.
     pub(crate) fn release<O: Sink>(&mut self, out: &mut O) -> Result<(), SinkFault>
         requires { IsSoundRun self.old }
-        ensures ok { OnOk result ((c : Course) (core : CoreState) → IsAt c core self.old → HasReleased c core self.old self.new O.holds out.old out.new) }
-        ensures err { OnErr result ((c : Course) (core : CoreState) → IsAt c core self.old → HasBroken c core self.new O.holds out.old out.new) }
-        ensures counted { Counted (is_err result) (O.faults out.old) (O.faults out.new) }
+        ensures ok { OnOk result ((c : Course) (core : CoreState) → IsAt c core self.old → HasReleased c core self.old self.new O.told out.old out.new) }
+        ensures err { OnErr result ((c : Course) (core : CoreState) → IsAt c core self.old → HasBroken c core self.new O.told out.old out.new) }
     {
         let verdict = self.hub.look(0);
         match self.gate.release(verdict.approved, out) {

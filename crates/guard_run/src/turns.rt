@@ -1,6 +1,5 @@
 //! The run of all turns, to its end or to a failed put.
 ghost use Rattle.std.specs.Prelude.{is_err, ◌≡◌, ◌≤◌, ◌∷◌, [], true, OnOk, OnErr, IfOk};
-ghost use Rattle.after_edge.specs.Fault.{Counted};
 ghost use Rattle.gate_core.specs.Core.{CoreState};
 ghost use Rattle.guard_run.specs.Course.{Course};
 ghost use Rattle.guard_run.specs.Runs.{HasBrokenRound, HasEnded, HasPassed, HasStopped, IsBroken, IsBrokenRun, IsIdle, IsIdleRun, IsOpened, IsOpenedRun, IsReadOut, IsShut};
@@ -14,9 +13,8 @@ impl Parts {
     // A round of turns: the recorder's, the replica's and the gate's.
     fn round<O: Sink>(&mut self, out: &mut O) -> Result<Turn, SinkFault>
         requires { IsIdleRun self.old }
-        ensures ok { IfOk result (λ turn. (c : Course) (core : CoreState) → IsIdle c core self.old → HasPassed c core turn self.old self.new O.holds out.old out.new) }
-        ensures err { OnErr result ((c : Course) (core : CoreState) → IsIdle c core self.old → HasBrokenRound c core self.new O.holds out.old out.new) }
-        ensures counted { Counted (is_err result) (O.faults out.old) (O.faults out.new) }
+        ensures ok { IfOk result (λ turn. (c : Course) (core : CoreState) → IsIdle c core self.old → HasPassed c core turn self.old self.new O.told out.old out.new) }
+        ensures err { OnErr result ((c : Course) (core : CoreState) → IsIdle c core self.old → HasBrokenRound c core self.new O.told out.old out.new) }
     {
         self.append_next();
         let turn = self.replica.turn(&mut self.hub);
@@ -57,9 +55,8 @@ impl Parts {
 /// the close: a front was written of what the analysis lets out of the records in the log.
 pub fn run_turns<O: Sink>(parts: &mut Parts, out: &mut O) -> Result<(), SinkFault>
     requires { IsOpenedRun parts.old }
-    ensures ok { OnOk result ((c : Course) → IsOpened c parts.old → HasEnded c parts.new O.holds out.old out.new) }
-    ensures err { OnErr result ((c : Course) → IsOpened c parts.old → HasStopped c parts.new O.holds out.old out.new) }
-    ensures counted { Counted (is_err result) (O.faults out.old) (O.faults out.new) }
+    ensures ok { OnOk result ((c : Course) → IsOpened c parts.old → HasEnded c parts.new O.told out.old out.new) }
+    ensures err { OnErr result ((c : Course) → IsOpened c parts.old → HasStopped c parts.new O.told out.old out.new) }
     ensures closed { parts.new.hub.closed ≡ true }
     ensures read { parts.new.hub.taken ≡ parts.new.hub.appended ∷ [] }
 {

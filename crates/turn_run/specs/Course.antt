@@ -61,6 +61,7 @@ pub record IsCourse (c : Course) : Type 0 where
   pub records : All IsRecord (log_of c)
   pub marked : All IsMarked c.items
   pub climbs : Climbs 0 (steps_of (output_of c)) (end_of c)
+  pub within : end_of c ≤ 1000000000
   pub short : length c.items ≤ 2 ^ 61
   pub cap : 1 ≤ c.cap
   pub readers : length c.limits ≤ 8

@@ -93,12 +93,13 @@ impl<M: Recorder, F: Follower> Parts<M, F> {
         ensures ok { OnOk result ((c : Course) (core : CoreState) → IsAt M.recording F.following c core self.old → HasReleased M.recording F.following c core self.old self.new O.told out.old out.new) }
         ensures err { OnErr result ((c : Course) (core : CoreState) → IsAt M.recording F.following c core self.old → HasBroken M.recording F.following c core self.new O.told out.old out.new) }
     {
-        let below = least_approved(&self.hub, &self.required);
+        let required: &[u32] = &self.required;
+        let below = least_approved(&self.hub, required);
         match self.gate.release(below, out) {
             Ok(_) => {}
             Err(fault) => return Err(fault),
         }
-        withhold_refused(&mut self.gate, &self.hub, &self.required);
+        withhold_refused(&mut self.gate, &self.hub, required);
         Ok(())
     }
 }

@@ -16,4 +16,4 @@ returns-then-has_header-clause-cause g c =
     let read : IsRead (g.F.Files.content c.args.files.now) c.args.image.now image_max c.in-Ok.file.items = record { told = c.in-Ok.ensures.whole; within = omega (arith, c.in-Ok.file.ok.0, c.in-Ok.ensures.within) } in
     let empty = read_empty_later (g.F.Files.content c.args.files.now) (g.F.Files.content c.read_all.new.files) c.args.script.now c.in-Ok-read_all.field-0.items c.read_all.ensures.same c.in-Ok-read_all.ensures.whole (omega (arith, c.in-Ok-read_all.field-0.ok.0, c.in-Ok-read_all.ensures.within)) in
     let header : is_elf c.in-Ok.file.items ≡ true = ap is_elf (sym c.deref.ensures.value) ∙ sym c.has_header.ensures ∙ c.if-has_header.true in
-    (inr (inr (c.in-Ok.file.items, read, empty, header)), c.in-Ok-read_all.ensures.cause ∙ c.in-Ok.ensures.cause)
+    inr (inr (c.in-Ok.file.items, read, empty, header))

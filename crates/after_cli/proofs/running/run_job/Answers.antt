@@ -1,6 +1,6 @@
-use Rattle.std.proofs.Common.{inl, inr, ap, sym, subst, ◌∙◌}
-use Rattle.after_edge.specs.Fault.{raised}
-use Rattle.after_edge.proofs.SinkLaws.{Adds-same, Adds-then, AddsPart-front, AddsPart-more, AddsPart-same, AddsPart-then}
+use Rattle.std.proofs.Common.{inl, inr, ap, sym, subst, arith}
+use Rattle.after_edge.proofs.SinkLaws.{Adds-then, Writes-same, Writes-then, WritesPart-prefix, WritesPart-more, WritesPart-same, WritesPart-then}
+use Rattle.after_edge.proofs.FaultLaws.{Rose-later}
 use Rattle.list_laws.specs.Prefix.{IsPrefix}
 use Rattle.gate_core.specs.Hub.{HubState}
 use Rattle.guard_run.specs.Gates.{released_by}
@@ -18,12 +18,12 @@ returns-in-Err-ran g c =
     let stopped = c.in-Err-ran.ensures.err of c.in-Ok.ensures in
     let count = c.run_turns-ran.new.parts.hub.appended in
     record {
-      written = AddsPart-same g.O.Sink.holds c.args.out.now c.run_turns-ran.new.out (text-cover_job c.args.file.items c.args.ram_kib c.args.limit)
-          (AddsPart-more g.O.Sink.holds c.args.out.now c.run_turns-ran.new.out (released_bytes of) (report_text of)
-          (AddsPart-front g.O.Sink.holds c.args.out.now c.run_turns-ran.new.out (released_by of count) (released_bytes of) (released_by_IsPrefix of course count) stopped.put));
-      counted = c.in-Err-ran.ensures.counted;
+      written = WritesPart-same g.O.Sink.told c.args.out.now c.run_turns-ran.new.out (text-cover_job c.args.file.items c.args.ram_kib c.args.limit)
+          (WritesPart-more g.O.Sink.told c.args.out.now c.run_turns-ran.new.out (released_bytes of) (report_text of)
+          (WritesPart-prefix g.O.Sink.told c.args.out.now c.run_turns-ran.new.out (released_by of count) (released_bytes of) (released_by_IsPrefix of course count) stopped.put));
       closing_is = inl (record {
-        put = AddsPart-same g.O.Sink.holds c.args.out.now c.run_turns-ran.new.out (ap (λ (hub : HubState). released_by of hub.appended) (sym (ap (λ (closing : Closing). closing.hub) c.finish-closing.ensures.parts))) stopped.put;
+        put = WritesPart-same g.O.Sink.told c.args.out.now c.run_turns-ran.new.out (ap (λ (hub : HubState). released_by of hub.appended) (sym (ap (λ (closing : Closing). closing.hub) c.finish-closing.ensures.parts))) stopped.put;
+        counted = omega (arith, stopped.counted, ap (λ (closing : Closing). closing.gate.released) c.finish-closing.ensures.parts);
         closes = c.finish-closing.ensures.front of stopped.stopped;
       });
     }
@@ -41,9 +41,8 @@ returns-in-Ok-tell g c =
     let course = has_course c.args.file.items c.args.ram_kib c.args.limit c.requires.steps in
     let closed = c.finish-closing.ensures.whole (job_course (cover_job c.args.file.items c.args.ram_kib c.args.limit)) (c.in-Ok-ran.ensures.ok (job_course (cover_job c.args.file.items c.args.ram_kib c.args.limit)) c.in-Ok.ensures).ended in
     record {
-      written = Adds-same g.O.Sink.holds c.args.out.now c.tell.new.out (text-cover_job c.args.file.items c.args.ram_kib c.args.limit)
-          (Adds-then g.O.Sink.holds c.args.out.now c.run_turns-ran.new.out c.tell.new.out (released_bytes of) (report_text of) (c.in-Ok-ran.ensures.ok of c.in-Ok.ensures).put (c.in-Ok-tell.ensures.ok of course closed));
-      quiet = c.in-Ok-tell.ensures.counted ∙ c.in-Ok-ran.ensures.counted;
+      written = Writes-same g.O.Sink.told c.args.out.now c.tell.new.out (text-cover_job c.args.file.items c.args.ram_kib c.args.limit)
+          (Writes-then g.O.Sink.told c.args.out.now c.run_turns-ran.new.out c.tell.new.out (released_bytes of) (report_text of) (c.in-Ok-ran.ensures.ok of c.in-Ok.ensures).put (c.in-Ok-tell.ensures.ok of course closed));
       status_is = c.in-Ok-tell.ensures.status of course closed;
       closing_is = whole_run c.args.file.items c.args.ram_kib c.args.limit c.requires.steps c.finish-closing.result closed;
     }
@@ -55,13 +54,13 @@ returns-in-Err-tell g c =
     let closed = c.finish-closing.ensures.whole (job_course (cover_job c.args.file.items c.args.ram_kib c.args.limit)) (c.in-Ok-ran.ensures.ok (job_course (cover_job c.args.file.items c.args.ram_kib c.args.limit)) c.in-Ok.ensures).ended in
     let told = c.in-Err-tell.ensures.err of course closed in
     record {
-      written = AddsPart-same g.O.Sink.holds c.args.out.now c.tell.new.out (text-cover_job c.args.file.items c.args.ram_kib c.args.limit)
-          (AddsPart-then g.O.Sink.holds c.args.out.now c.run_turns-ran.new.out c.tell.new.out (released_bytes of) (report_text of) (c.in-Ok-ran.ensures.ok of c.in-Ok.ensures).put (c.in-Err-tell.ensures.err of course closed));
-      counted = c.in-Err-tell.ensures.counted ∙ ap raised c.in-Ok-ran.ensures.counted;
+      written = WritesPart-same g.O.Sink.told c.args.out.now c.tell.new.out (text-cover_job c.args.file.items c.args.ram_kib c.args.limit)
+          (WritesPart-then g.O.Sink.told c.args.out.now c.run_turns-ran.new.out c.tell.new.out (released_bytes of) (report_text of) (c.in-Ok-ran.ensures.ok of c.in-Ok.ensures).put (c.in-Err-tell.ensures.err of course closed));
       closing_is = inr (record {
-        front = told.front;
-        is_front = subst (IsPrefix told.front) (report-cover_job c.args.file.items c.args.ram_kib c.args.limit) told.is_front;
-        put = Adds-then g.O.Sink.holds c.args.out.now c.run_turns-ran.new.out c.tell.new.out (released_bytes of) told.front (c.in-Ok-ran.ensures.ok of c.in-Ok.ensures).put told.added;
+        part = told.part;
+        is_prefix = subst (IsPrefix told.part) (report-cover_job c.args.file.items c.args.ram_kib c.args.limit) told.is_prefix;
+        put = Adds-then g.O.Sink.told.holds c.args.out.now c.run_turns-ran.new.out c.tell.new.out (released_bytes of) told.part (c.in-Ok-ran.ensures.ok of c.in-Ok.ensures).put.added told.added;
+        rose = Rose-later (g.O.Sink.told.faults c.args.out.now) (g.O.Sink.told.faults c.run_turns-ran.new.out) (g.O.Sink.told.faults c.tell.new.out) (c.in-Ok-ran.ensures.ok of c.in-Ok.ensures).put.kept told.rose;
         whole = whole_run c.args.file.items c.args.ram_kib c.args.limit c.requires.steps c.finish-closing.result closed;
       });
     }

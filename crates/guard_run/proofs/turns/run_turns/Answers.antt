@@ -22,29 +22,28 @@ pub returns-in-Ok-Closed-clause-ok : goal.returns-in-Ok-Closed-clause-ok
 returns-in-Ok-Closed-clause-ok g c = λ of opened.
     let way = c.rounds.invariant.way of opened in
     let passed = c.in-Ok-Closed.ensures.ok of way.core way.idle in
-    has_ended of passed.next c.round.new.self passed.idle (closed_by passed.next c.in-Ok-Closed.field-0 c.in-Ok-Closed.field-0-is passed.goes) g.O.Sink.holds c.args.out.now c.round.new.out
-    (put_then of way.core passed.next g.O.Sink.holds c.args.out.now c.rounds.out c.round.new.out passed.more way.put passed.put)
+    has_ended of passed.next c.round.new.self passed.idle (closed_by passed.next c.in-Ok-Closed.field-0 c.in-Ok-Closed.field-0-is passed.goes) g.O.Sink.told c.args.out.now c.round.new.out
+    (put_then of way.core passed.next g.O.Sink.told c.args.out.now c.rounds.out c.round.new.out passed.more way.put passed.put)
 
 pub rounds-preserved : goal.rounds-preserved
 rounds-preserved g c = record {
   way = λ of opened.
       let way = c.rounds.invariant.way of opened in
       let passed = c.in-Ok-Took.ensures.ok of way.core way.idle in
-      on_then of way.core passed.next c.round.new.self passed.idle g.O.Sink.holds c.args.out.now c.rounds.out c.round.new.out passed.more way.put passed.put;
-  quiet = c.in-Ok-Took.ensures.counted ∙ c.rounds.invariant.quiet;
+      on_then of way.core passed.next c.round.new.self passed.idle g.O.Sink.told c.args.out.now c.rounds.out c.round.new.out passed.more way.put passed.put;
 }
 
 pub read_out-requires : goal.read_out-requires
 read_out-requires g c =
     let way = c.rounds.invariant.way c.requires.of c.requires.opened in
     let b = c.in-Err.ensures.err c.requires.of way.core way.idle in
-    record { of = c.requires.of; core = broken_core c.requires.of way.core c.round.new.self g.O.Sink.holds c.rounds.out c.round.new.out b; broken = b.breaks.broken }
+    record { of = c.requires.of; core = broken_core c.requires.of way.core c.round.new.self g.O.Sink.told c.rounds.out c.round.new.out b; broken = b.breaks.broken }
 
 pub returns-in-Err-clause-err : goal.returns-in-Err-clause-err
 returns-in-Err-clause-err g c = λ of opened.
     let way = c.rounds.invariant.way of opened in
     let b = c.in-Err.ensures.err of way.core way.idle in
-    has_stopped of way.core c.round.new.self c.read_out.new.self g.O.Sink.holds c.args.out.now c.rounds.out c.round.new.out way.put b (c.read_out.ensures of (broken_core of way.core c.round.new.self g.O.Sink.holds c.rounds.out c.round.new.out b) b.breaks.broken)
+    has_stopped of way.core c.round.new.self c.read_out.new.self g.O.Sink.told c.args.out.now c.rounds.out c.round.new.out way.put b (c.read_out.ensures of (broken_core of way.core c.round.new.self g.O.Sink.told c.rounds.out c.round.new.out b) b.breaks.broken)
 
 -- the state in which a run ended, or stopped
 at_end : (g : Over) (c : goal.In-Ok-Closed g) → IsEnded c.requires.of c.round.new.self

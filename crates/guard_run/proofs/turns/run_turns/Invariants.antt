@@ -6,8 +6,7 @@ use Rattle.guard_run.proofs.turns.run_turns.Given as goal
 -- whatever course the run has, it stands between two rounds of it
 abbrev pub invariant-rounds : goal.invariant-rounds
 invariant-rounds g l = record {
-  way : (c : Course) → IsOpened c l.fn.parts → IsOnItsWay c l.parts g.O.Sink.holds l.fn.out l.out;
-  quiet : g.O.Sink.faults l.out ≡ g.O.Sink.faults l.fn.out;
+  way : (c : Course) → IsOpened c l.fn.parts → IsOnItsWay c l.parts g.O.Sink.told l.fn.out l.out;
 }
 
 -- in each round the recorder comes on

@@ -21,7 +21,7 @@ pub records-preserved : goal.records-preserved
 records-preserved c = record {
   shut = λ of core b.
       let s = c.records.invariant.shut of core b in
-      record { last = after_turn of s.last; broken = takes_broken of s.last c.records.self s.broken c.turn.new.hub c.turn.new.self (c.in-Took.ensures of s.last s.broken.follows).1; same = s.same; closed = s.closed };
+      record { last = after_turn of s.last; broken = takes_broken of s.last c.records.self s.broken c.turn.new.hub c.turn.new.self (c.in-Took.ensures of s.last s.broken.follows).1; same = s.same; still = s.still; closed = s.closed };
 }
 
 -- the last turn took none
@@ -35,6 +35,7 @@ last_turn of core parts hub replica turn s turned (inr closed) =
       last = s.last;
       broken = subst (λ h. IsBroken of s.last (with_replica parts h replica)) (sym took_none.same_hub) (subst (λ r. IsBroken of s.last (with_replica parts parts.hub r)) (sym took_none.same_replica) s.broken);
       same = s.same;
+      still = s.still;
       closed = s.closed;
       taken = took_none.all;
     }

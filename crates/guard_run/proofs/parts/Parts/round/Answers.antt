@@ -16,10 +16,10 @@ pub returns-in-Ok-clause-ok : goal.returns-in-Ok-clause-ok
 returns-in-Ok-clause-ok g c = λ of core idle.
     let r = recorded_by of core c.args.self.now c.append_next.new.self c.append_next.result idle (c.append_next.ensures of core idle.at) in
     let up = caught_up of core c.append_next.new.self r c.turn-turn.result c.turn-turn.new.hub c.turn-turn.new.self (c.turn-turn.ensures of r.next r.at.follows) in
-    passed of core c.turn-turn.result c.args.self.now (with_replica c.append_next.new.self c.turn-turn.new.hub c.turn-turn.new.self) c.release.new.self idle up g.O.Sink.holds c.args.out.now c.release.new.out (c.in-Ok.ensures.ok of up.next up.at)
+    passed of core c.turn-turn.result c.args.self.now (with_replica c.append_next.new.self c.turn-turn.new.hub c.turn-turn.new.self) c.release.new.self idle up g.O.Sink.told c.args.out.now c.release.new.out (c.in-Ok.ensures.ok of up.next up.at)
 
 pub returns-in-Err-clause-err : goal.returns-in-Err-clause-err
 returns-in-Err-clause-err g c = λ of core idle.
     let r = recorded_by of core c.args.self.now c.append_next.new.self c.append_next.result idle (c.append_next.ensures of core idle.at) in
     let up = caught_up of core c.append_next.new.self r c.turn-turn.result c.turn-turn.new.hub c.turn-turn.new.self (c.turn-turn.ensures of r.next r.at.follows) in
-    broken of core c.turn-turn.result c.args.self.now (with_replica c.append_next.new.self c.turn-turn.new.hub c.turn-turn.new.self) c.release.new.self idle up g.O.Sink.holds c.args.out.now c.release.new.out (c.in-Err.ensures.err of up.next up.at)
+    broken of core c.turn-turn.result c.args.self.now (with_replica c.append_next.new.self c.turn-turn.new.hub c.turn-turn.new.self) c.release.new.self idle up g.O.Sink.told c.args.out.now c.release.new.out (c.in-Err.ensures.err of up.next up.at)

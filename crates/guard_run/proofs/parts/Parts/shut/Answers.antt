@@ -11,5 +11,6 @@ returns-then-not-is_closed c = λ of core b. record {
   last = after_event (plan_of of) core Close;
   broken = subst (λ (hub : HubState). IsBroken of (after_event (plan_of of) core Close) (with_hub c.args.self.now hub)) (sym c.close.ensures) (closes_broken of core c.args.self.now b (sym c.if-not-is_closed.ensures));
   same = refl;
+  still = refl;
   closed = refl;
 }

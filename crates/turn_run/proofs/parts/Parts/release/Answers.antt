@@ -1,23 +1,24 @@
-use Rattle.std.proofs.Common.{rules, ◌≡◌, ◌-◌, ◌<◌, ◌≤◌, ◌&&◌, false, length, is_some, slice_index, IfSome, OnOk, OnErr, ℕ, ◌+◌, ◌*◌, ◌/◌, ◌%◌, Bool, true, nat_eq, nat_lt, List, [], ◌∷◌, ◌++◌, slice_index_or, slice_set, bit_and, bit_or, Fits, w8, w32, w64, Bor, MutBor}
+use Rattle.std.proofs.Common.{◌≡◌, ◌≤◌, ◌∙◌, sym, ap, subst}
 use Rattle.std.specs.List.{All}
-use Rattle.run_events.specs.Record.{number}
-use Rattle.gate_core.specs.Core.{CoreState}
 use Rattle.gate_core.specs.Follow.{approvals}
 use Rattle.gate_core.specs.Hub.{approved_at}
-use Rattle.output_gate.specs.Gate.{is_full}
-use Rattle.turn_run.specs.Course.{Course, IsMarked}
-use Rattle.turn_run.specs.Gates.{least_approved, refusals, with_item, withheld_from}
-use Rattle.turn_run.specs.Runs.{HasBroken, HasReleased, IsAt, IsBesides, IsFollowed, IsFollowedRun, IsSoundRun, Lessens, LessensRead, Reads, Records}
+use Rattle.turn_run.specs.Gates.{least_approved, refusals, withheld_from}
+use Rattle.turn_run.proofs.TurnLaws.{broken_off, passed_low, released_on}
 use Rattle.turn_run.proofs.parts.Parts.release.Goals as goal
 
--- src/parts.rt:99:27
 pub returns-in-Err-clause-err : goal.returns-in-Err-clause-err
-returns-in-Err-clause-err g c = ?
+returns-in-Err-clause-err g c = λ of core at.
+    let low = c.least_approved-below.ensures ∙ ap (least_approved (approvals c.args.self.now.hub.verdicts)) c.deref-required.ensures.value in
+    broken_off g.M.Recorder.recording g.F.Follower.following of core c.args.self.now at c.least_approved-below.result low g.O.Sink.told c.args.out.now c.release.new.out c.release.new.self c.in-Err.ensures.failed c.in-Err.ensures.some c.in-Err.ensures.err
 
--- src/parts.rt:101:9
 pub withhold_refused-requires-clause-passed : goal.withhold_refused-requires-clause-passed
-withhold_refused-requires-clause-passed g c = ?
+withhold_refused-requires-clause-passed g c =
+    let low = c.least_approved-below.ensures ∙ ap (least_approved (approvals c.args.self.now.hub.verdicts)) c.deref-required.ensures.value in
+    subst (All (λ reader. c.release.new.self.passed ≤ approved_at c.args.self.now.hub reader)) (sym c.deref-required.ensures.value)
+    (passed_low g.M.Recorder.recording g.F.Follower.following c.requires.of c.requires.core c.args.self.now c.requires.at c.least_approved-below.result low c.release.new.self c.in-Ok.ensures.released)
 
--- src/parts.rt:91:5
 pub returns-clause-ok : goal.returns-clause-ok
-returns-clause-ok g c = ?
+returns-clause-ok g c = λ of core at.
+    let low = c.least_approved-below.ensures ∙ ap (least_approved (approvals c.args.self.now.hub.verdicts)) c.deref-required.ensures.value in
+    released_on g.M.Recorder.recording g.F.Follower.following of core c.args.self.now at c.least_approved-below.result low g.O.Sink.told c.args.out.now c.release.new.out c.withhold_refused.new.gate
+    (c.withhold_refused.ensures ∙ (λ i. withheld_from (refusals c.args.self.now.hub (c.deref-required.ensures.value i)) (c.in-Ok.ensures.released i))) c.in-Ok.ensures.ok
