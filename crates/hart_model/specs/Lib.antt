@@ -1,3 +1,4 @@
+pub mod Aligned
 pub mod Effect
 pub mod Fetch
 pub mod Machine
