@@ -4,6 +4,8 @@ pub mod RunTape
 pub mod Order
 pub mod OutcomeLaws
 pub mod Prefixes
+pub mod Shown
+pub mod Determinism
 pub mod Toy
 pub mod ToyRun
 pub mod ToyFaults

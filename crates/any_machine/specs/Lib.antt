@@ -5,3 +5,4 @@ pub mod Tape
 pub mod Replay
 pub mod Held
 pub mod Recorder
+pub mod Law
