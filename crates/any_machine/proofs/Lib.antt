@@ -6,6 +6,8 @@ pub mod OutcomeLaws
 pub mod Prefixes
 pub mod Shown
 pub mod Determinism
+pub mod NumberLaws
+pub mod ItemLaws
 pub mod Toy
 pub mod ToyRun
 pub mod ToyFaults
