@@ -6,8 +6,11 @@ pub mod OutcomeLaws
 pub mod Prefixes
 pub mod Shown
 pub mod Determinism
+pub mod BoardRun
+pub mod RunSteps
 pub mod NumberLaws
 pub mod ItemLaws
+pub mod LogLaws
 pub mod Toy
 pub mod ToyRun
 pub mod ToyFaults
