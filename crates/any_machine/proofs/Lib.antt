@@ -9,3 +9,6 @@ pub mod Determinism
 pub mod Toy
 pub mod ToyRun
 pub mod ToyFaults
+pub mod Later
+pub mod Stands
+pub mod Stops
