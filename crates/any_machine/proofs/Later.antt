@@ -1,6 +1,6 @@
 -- What a list that fits says of its records, and of the steps after its last one.
 use Rattle.std.proofs.Common.{◌≡◌, ℕ, ◌<◌, ◌≤◌, Bool, true, false, cond, ◌&&◌, List, [], ◌∷◌, ◌++◌, Option, None, Some, refl, sym, ap, ◌∙◌, arith, unwrap_or}
-use Rattle.std.specs.Option.{option_map, option_or}
+use Rattle.std.specs.Option.{option_or}
 use Rattle.std.proofs.lemmas.Bool.{and_parts}
 use Rattle.std.proofs.lemmas.Bool.Decides.{nat_tests}
 use Rattle.run_events.specs.declared.fault.Diverged.{Diverged}
@@ -11,7 +11,7 @@ use Rattle.run_events.specs.Record.{number, is_admitted, is_ordered_back, reach_
 use Rattle.run_events.proofs.RecordLaws.{admitted_rises}
 use Rattle.any_machine.specs.Machine.{Machine, Input}
 use Rattle.any_machine.specs.Tape.{bits_told, load_told, words_told, lines_at, load_at, words_at, tape_of}
-use Rattle.any_machine.specs.Replay.{Outcome, Stop, stopped, fault_at, first_stop, own_stop, stop_of, taken_or_stopped, unless_faulted, judged, outcome}
+use Rattle.any_machine.specs.Replay.{Outcome, Stop, stopped, fault_at, stop_of, taken_or_stopped, unless_faulted, outcome}
 use Rattle.any_machine.proofs.OutcomeLaws.{whole, outcome-nil, outcome-cons, whole_more}
 
 -- after step n a tape says nothing new: no words, the same lines, no value of a device register

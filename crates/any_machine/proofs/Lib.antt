@@ -12,3 +12,6 @@ pub mod ToyFaults
 pub mod Later
 pub mod Stands
 pub mod Stops
+pub mod WithRecord
+pub mod CarriesLaws
+pub mod HeldRuns

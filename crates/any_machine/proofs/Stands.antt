@@ -1,14 +1,11 @@
 -- What is held, held against a tape: after one step more, after a run, and after a record.
-use Rattle.std.proofs.Common.{◌≡◌, ◌⊎◌, inl, inr, ⊎_elim, ℕ, zero, suc, ◌+◌, ◌-◌, ◌<◌, ◌≤◌, Bool, true, false, not, cond, ◌&&◌, nat_lt, List, [], ◌∷◌, ◌++◌, Option, None, Some, refl, sym, ap, ◌∙◌, subst, arith, append-nil, append_assoc, below_more, unwrap_or}
+use Rattle.std.proofs.Common.{◌≡◌, ℕ, zero, suc, ◌+◌, ◌<◌, ◌≤◌, Bool, true, false, not, cond, List, [], ◌∷◌, ◌++◌, Option, None, refl, sym, ap, ◌∙◌, arith, append-nil, append_assoc, below_more}
 use Rattle.std.specs.Prelude.{is_some}
-use Rattle.std.specs.Option.{option_map, option_or}
 use Rattle.std.proofs.lemmas.Bool.{and_parts}
 use Rattle.std.proofs.lemmas.Grind.{flat_map-append}
 use Rattle.list_laws.proofs.OptionLaws.{none_from_is_some}
 use Rattle.run_events.specs.declared.event.Event.{Event}
-use Rattle.run_events.specs.declared.fault.Why.{Why}
-use Rattle.run_events.specs.declared.record.Record.{Record}
-use Rattle.any_machine.specs.Machine.{Machine, Input, Turn, power_status, touched, writes_of, turn_of}
+use Rattle.any_machine.specs.Machine.{Machine, Input, power_status, touched, writes_of}
 use Rattle.any_machine.specs.Run.{events_in, events_of}
 use Rattle.any_machine.specs.Replay.{state_at, turn_at, turns_below, power_at, last_power, load_fault, load_fault_at, shown_on}
 use Rattle.any_machine.specs.Held.{Held, wait_fault, held_event, held_next, may_step, run_held, run_shown, IsAt}
@@ -57,7 +54,7 @@ module _ {S : Type 0} (m : Machine S) (start : S) (tape : ℕ → Input) where
       let same = event_is h at in
       record {
         state =
-        ap (λ r. r.1) same ∙ sym (state_at-suc m start tape h.step) ∙ ap (λ words. touched m (state_at m start tape (suc h.step)) words) (sym (idle.no_words (suc h.step) (omega arith)));
+            ap (λ r. r.1) same ∙ sym (state_at-suc m start tape h.step) ∙ ap (λ words. touched m (state_at m start tape (suc h.step)) words) (sym (idle.no_words (suc h.step) (omega arith)));
         lines = at.lines ∙ sym (idle.same_lines (suc h.step) (omega arith));
         load = sym (idle.no_load (suc h.step) (omega arith));
         power = ap (λ r. power_status r.0) same;

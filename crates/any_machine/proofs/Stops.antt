@@ -1,5 +1,5 @@
 -- Where a replay halts before a record, and the fault of the record.
-use Rattle.std.proofs.Common.{◌≡◌, ℕ, zero, suc, ◌+◌, ◌-◌, ◌<◌, ◌≤◌, Bool, true, false, not, cond, ◌&&◌, nat_lt, List, [], ◌∷◌, Option, None, Some, refl, sym, ap, ◌∙◌, subst, arith}
+use Rattle.std.proofs.Common.{◌≡◌, ℕ, zero, suc, ◌-◌, ◌<◌, ◌≤◌, Bool, true, false, not, cond, ◌&&◌, nat_lt, List, Option, None, Some, refl, sym, ap, ◌∙◌, subst, arith}
 use Rattle.std.specs.Prelude.{is_some, ◌==◌}
 use Rattle.std.specs.Option.{option_map, option_or}
 use Rattle.std.proofs.lemmas.Bool.{and_parts, eqb-true}
@@ -10,11 +10,10 @@ use Rattle.run_events.specs.declared.fault.Why.TheVariants.{EndsElsewhere, StepF
 use Rattle.run_events.specs.declared.record.EndCause.TheVariants.{Power, Limit, Stuck}
 use Rattle.run_events.specs.declared.record.Record.{Record}
 use Rattle.run_events.specs.declared.record.Record.TheVariants.{Load, Lines, Dma, Reach, End}
-use Rattle.run_events.specs.declared.supply.Supplied.{Supplied}
 use Rattle.run_events.specs.Record.{number, is_admitted, reach_back}
 use Rattle.any_machine.specs.Machine.{Machine, Input}
 use Rattle.any_machine.specs.Tape.{tape_of}
-use Rattle.any_machine.specs.Replay.{Stop, stopped, fault_at, is_after_power, step_stop, power_stop, power_at, last_power, load_fault_at, stop_at, first_stop, own_fault, own_stop, stop_of}
+use Rattle.any_machine.specs.Replay.{stopped, fault_at, is_after_power, step_stop, power_stop, power_at, last_power, load_fault_at, stop_at, first_stop, own_fault, own_stop, stop_of}
 use Rattle.any_machine.specs.Held.{Held, wait_fault, may_step, halt_fault, held_fault, IsAt}
 use Rattle.any_machine.proofs.TapeLaws.{IsClear, clear_stops_not, first_stop-none, first_stop-clear, first_stop-at}
 use Rattle.any_machine.proofs.Stands.{quiet_below, wait_is, below_next}
@@ -40,18 +39,18 @@ module _ {S : Type 0} (m : Machine S) (start : S) (tape : ℕ → Input) where
       → (b : Bool) → is_after_power (suc k) status item ≡ b → IsHalted item (suc k) (cond b None (Some (fault_at (suc k - 1) EndsElsewhere)))
   after_store item k status clear has_value store le true follows = record {
     stop =
-    let last : stop_at m start tape item k ≡ None = ap (λ o. step_stop k o (power_at m start tape k) item) has_value ∙ ap (λ o. power_stop k o item) store ∙ ap (λ b. cond b None (Some (stopped (suc k) (fault_at k EndsElsewhere)))) follows in
-    let ends = number_after item (suc k) status follows in
-    first_stop-none m start tape item (number item) (λ j lt. below_next m start tape (λ i. stop_at m start tape item i ≡ None) k (λ i low. clear_stops_not m start tape item i (clear i low)) last j (omega (arith, lt, ends)));
+        let last : stop_at m start tape item k ≡ None = ap (λ o. step_stop k o (power_at m start tape k) item) has_value ∙ ap (λ o. power_stop k o item) store ∙ ap (λ b. cond b None (Some (stopped (suc k) (fault_at k EndsElsewhere)))) follows in
+        let ends = number_after item (suc k) status follows in
+        first_stop-none m start tape item (number item) (λ j lt. below_next m start tape (λ i. stop_at m start tape item i ≡ None) k (λ i low. clear_stops_not m start tape item i (clear i low)) last j (omega (arith, lt, ends)));
     done = λ none. sym (number_after item (suc k) status follows);
   }
   after_store item k status clear has_value store le false follows = record {
     stop =
-    let last : stop_at m start tape item k ≡ Some (stopped (suc k) (fault_at k EndsElsewhere)) =
+        let last : stop_at m start tape item k ≡ Some (stopped (suc k) (fault_at k EndsElsewhere)) =
         ap (λ o. step_stop k o (power_at m start tape k) item) has_value ∙ ap (λ o. power_stop k o item) store ∙ ap (λ b. cond b None (Some (stopped (suc k) (fault_at k EndsElsewhere)))) follows
-    in
-    let back : k ≡ suc k - 1 = omega arith in
-    first_stop-at m start tape item (stopped (suc k) (fault_at k EndsElsewhere)) (number item) k (λ j low. clear_stops_not m start tape item j (clear j low)) last (omega (arith, le)) ∙ ap (λ j. Some (stopped (suc k) (fault_at j EndsElsewhere))) back;
+        in
+        let back : k ≡ suc k - 1 = omega arith in
+        first_stop-at m start tape item (stopped (suc k) (fault_at k EndsElsewhere)) (number item) k (λ j low. clear_stops_not m start tape item j (clear j low)) last (omega (arith, le)) ∙ ap (λ j. Some (stopped (suc k) (fault_at j EndsElsewhere))) back;
     done = λ none. absurd (cc);
   }
 
@@ -105,9 +104,17 @@ module _ {S : Type 0} (m : Machine S) (start : S) (tape : ℕ → Input) where
       ∙ ap (λ load. option_map (stopped h.step) (own_fault m start item load (last_power m start tape h.step))) (sym at.load) ∙ ap (λ power. option_map (stopped h.step) (own_fault m start item h.load power)) (sym at.power)
 
 module _ {S : Type 0} (m : Machine S) (start : S) where
-  -- the stop of a record that the order admits, by what is held
+  by_order : (before : List Record) (item : Record) (b : Bool) → is_admitted before item ≡ b
+      → stop_of m start before item
+      ≡ cond b (option_or (first_stop m start (tape_of before) item (number item)) (own_stop m start (tape_of before) item (number item))) (Some (stopped (reach_back before) (fault_at (number item) StepFalls)))
+  by_order before item b is = ap (λ b. cond b (option_or (first_stop m start (tape_of before) item (number item)) (own_stop m start (tape_of before) item (number item))) (Some (stopped (reach_back before) (fault_at (number item) StepFalls)))) is
+
+  -- the stop of a record that the order does not admit
+  pub stop_falls : (before : List Record) (item : Record) → is_admitted before item ≡ false → stop_of m start before item ≡ Some (stopped (reach_back before) (fault_at (number item) StepFalls))
+  stop_falls before item falls = by_order before item false falls
+
+  -- and of one that it admits, by what is held
   pub stop_is : (before : List Record) (item : Record) (h : Held S) → is_admitted before item ≡ true → IsAt m start (tape_of before) h → h.step ≤ number item → (h.step < number item → may_step m h ≡ false)
       → stop_of m start before item ≡ option_map (stopped h.step) (held_fault m start item h)
   stop_is before item h admitted at le early =
-      ap (λ b. cond b (option_or (first_stop m start (tape_of before) item (number item)) (own_stop m start (tape_of before) item (number item))) (Some (stopped (reach_back before) (fault_at (number item) StepFalls)))) admitted
-      ∙ stop_by m start (tape_of before) item h at (halt_fault h.step h.power (wait_fault m h) item) (halted m start (tape_of before) item h at le early)
+      by_order before item true admitted ∙ stop_by m start (tape_of before) item h at (halt_fault h.step h.power (wait_fault m h) item) (halted m start (tape_of before) item h at le early)
