@@ -14,3 +14,9 @@ pub mod LogLaws
 pub mod Toy
 pub mod ToyRun
 pub mod ToyFaults
+pub mod Later
+pub mod Stands
+pub mod Stops
+pub mod WithRecord
+pub mod CarriesLaws
+pub mod HeldRuns
