@@ -98,7 +98,7 @@ module _ {S : Type 0} (m : Machine S) (start : S) where
   parts_of before last None (Some stop) fault_is stop_is none = absurd (cc)
   parts_of before last None None fault_is stop_is none = record { fits = fault_is; goes_on = stop_is }
 
-  fits_parts : (before : List Record) (last : Record) → (outcome m start (last ∷ before)).fault ≡ None → FitsWith before last
+  pub fits_parts : (before : List Record) (last : Record) → (outcome m start (last ∷ before)).fault ≡ None → FitsWith before last
   fits_parts before last none = parts_of before last _ _ refl refl (ap (λ (o : Outcome). o.fault) (sym (outcome-cons m start last before)) ∙ none)
 
   stop_after : (before : List Record) (last : Record) → outcome m start before ≡ whole before → stop_of m start (outcome m start before).taken last ≡ None → stop_of m start before last ≡ None
