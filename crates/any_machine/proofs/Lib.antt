@@ -9,11 +9,13 @@ pub mod Determinism
 pub mod BoardRun
 pub mod RunSteps
 pub mod NumberLaws
+pub mod ShownBySteps
 pub mod ItemLaws
 pub mod LogLaws
 pub mod Toy
 pub mod ToyRun
 pub mod ToyFaults
+pub mod ToySound
 pub mod Later
 pub mod Stands
 pub mod Stops

@@ -31,9 +31,10 @@ TurnsStand n (turn ∷ turns) = TurnStands n turn × TurnsStand (suc n) turns
 module _ {S : Type 0} (m : Machine S) (done : S → ℕ) (counts : CountsSteps m done) where
   writes_stand : (s : S) (words : List DmaWord) → AllByRecursion (IsWordAt (done s)) (writes_of m s words)
   writes_stand s [] = tt
-  writes_stand s (word ∷ words) =
-      (subst (IsWordAt (done s)) (sym (counts.word_told s word)) (record { stands = refl; word = refl; silent = λ place. refl }),
-      subst (λ n. AllByRecursion (IsWordAt n) (writes_of m (m.touch s word).1 words)) (counts.touched_not s word) (writes_stand (m.touch s word).1 words))
+  writes_stand s (word ∷ words) = (
+    subst (IsWordAt (done s)) (sym (counts.word_told s word)) (record { stands = refl; word = refl; silent = λ place. refl }),
+    subst (λ n. AllByRecursion (IsWordAt n) (writes_of m (m.touch s word).1 words)) (counts.touched_not s word) (writes_stand (m.touch s word).1 words),
+  )
 
   pub done_touched : (s : S) (words : List DmaWord) → done (touched m s words) ≡ done s
   done_touched s [] = refl
@@ -50,9 +51,10 @@ module _ {S : Type 0} (m : Machine S) (done : S → ℕ) (counts : CountsSteps m
 
   run_turns_stand : (start s : S) (turns : List Turn) (cause : EndCause) → IsRun m start s turns cause → TurnsStand (done s) turns
   run_turns_stand start s [] cause runs = tt
-  run_turns_stand start s (turn ∷ turns) cause runs =
-      (subst (TurnStands (done s)) (sym runs.0.does) (turn_stands s turn.input),
-      by (power_status turn.event) (λ rest. subst (λ n. TurnsStand n turns) (done_after s turn.input) (run_turns_stand start (after m s turn.input) turns cause rest)) runs.1)
+  run_turns_stand start s (turn ∷ turns) cause runs = (
+    subst (TurnStands (done s)) (sym runs.0.does) (turn_stands s turn.input),
+    by (power_status turn.event) (λ rest. subst (λ n. TurnsStand n turns) (done_after s turn.input) (run_turns_stand start (after m s turn.input) turns cause rest)) runs.1,
+  )
     where
       by : (o : Option ℕ) → (IsRun m start (after m s turn.input) turns cause → TurnsStand (suc (done s)) turns) → EndsOrGoes o turns cause (IsRun m start (after m s turn.input) turns cause) → TurnsStand (suc (done s)) turns
       by (Some status) again ends = subst (TurnsStand (suc (done s))) (sym ends.0) tt

@@ -186,9 +186,9 @@ module _ {S : Type 0} (m : Machine S) (start : S) (turns : List Turn) (cause : E
             here = word_at n n true word before (same_number n) ∙ ap (λ input. joined_with input None None (word ∷ [])) is.here;
             later = λ k lt. word_at n k false word before (not_number n k lt) ∙ joined_nothing (tape_of before k) ∙ is.later k lt;
             fits =
-            whole_more m start (word_record n word) before is.fits
-            (stop_none m start (word_record n word) before (admitted_word before n word.address word.word word.mark is.ordered few) (first_inside_none (word_record n word) before is.below)
-            (ap (λ b. cond b None (Some (fault_at n BadDma))) held));
+                whole_more m start (word_record n word) before is.fits
+                (stop_none m start (word_record n word) before (admitted_word before n word.address word.word word.mark is.ordered few) (first_inside_none (word_record n word) before is.below)
+                (ap (λ b. cond b None (Some (fault_at n BadDma))) held));
             begun = record { rest = left; joined = append_assoc now.words (word ∷ []) left ∙ words ∙ ap (λ (input : Input). input.words) (sym is_turn.input) };
             within = is.within;
           }
@@ -200,8 +200,8 @@ module _ {S : Type 0} (m : Machine S) (start : S) (turns : List Turn) (cause : E
         here = lines_told n n lines before (omega arith) ∙ ap (λ input. joined_with input (Some lines) None []) is.here ∙ ap (λ l. record { words = l; lines = lines; supplied = now.supplied }) (append-nil now.words);
         later = λ k lt. lines_told n k lines before (omega (arith, lt)) ∙ ap (λ input. joined_with input (Some lines) None []) (is.later k lt);
         fits =
-        whole_more m start (Lines n lines) before is.fits
-        (stop_none m start (Lines n lines) before (admitted before (Lines n lines) is.ordered) (first_inside_none (Lines n lines) before is.below) refl);
+            whole_more m start (Lines n lines) before is.fits
+            (stop_none m start (Lines n lines) before (admitted before (Lines n lines) is.ordered) (first_inside_none (Lines n lines) before is.below) refl);
         begun = is.begun;
         within = is.within;
       }
@@ -213,8 +213,8 @@ module _ {S : Type 0} (m : Machine S) (start : S) (turns : List Turn) (cause : E
         here = load_at_step n n true supplied before (same_number n) ∙ ap (λ input. joined_with input None (Some supplied) []) is.here ∙ ap (λ l. record { words = l; lines = now.lines; supplied = Some supplied }) (append-nil now.words);
         later = λ k lt. load_at_step n k false supplied before (not_number n k lt) ∙ joined_nothing (tape_of before k) ∙ is.later k lt;
         fits =
-        whole_more m start (Load n supplied.value supplied.mark) before is.fits
-        (stop_none m start (Load n supplied.value supplied.mark) before (admitted before (Load n supplied.value supplied.mark) is.ordered) (first_inside_none (Load n supplied.value supplied.mark) before is.below) refl);
+            whole_more m start (Load n supplied.value supplied.mark) before is.fits
+            (stop_none m start (Load n supplied.value supplied.mark) before (admitted before (Load n supplied.value supplied.mark) is.ordered) (first_inside_none (Load n supplied.value supplied.mark) before is.below) refl);
         begun = is.begun;
         within = is.within;
       }
@@ -241,8 +241,8 @@ module _ {S : Type 0} (m : Machine S) (start : S) (turns : List Turn) (cause : E
         here = joined_nothing (tape_of before (suc n)) ∙ is.here;
         later = λ k lt. joined_nothing (tape_of before k) ∙ is.later k lt;
         fits =
-        whole_more m start (Reach (suc n)) before is.fits
-        (stop_none m start (Reach (suc n)) before (admitted before (Reach (suc n)) is.ordered) (first_none (suc n) (Reach (suc n)) before is.below is.within reach_follows) refl);
+            whole_more m start (Reach (suc n)) before is.fits
+            (stop_none m start (Reach (suc n)) before (admitted before (Reach (suc n)) is.ordered) (first_none (suc n) (Reach (suc n)) before is.below is.within reach_follows) refl);
         begun = is.begun;
         within = is.within;
       }
@@ -252,9 +252,10 @@ module _ {S : Type 0} (m : Machine S) (start : S) (turns : List Turn) (cause : E
           → ((before' : List Record) → IsInside n (record now { words = turn.input.words }) 2 before' → EachPrefix IsRunPrefix before' tail) → EachPrefix IsRunPrefix before (map (word_record n) words ++ tail)
       words_go [] now before tail is words again =
           again before (subst (λ l. IsInside n (record now { words = l }) 2 before) (sym (append-nil now.words) ∙ words) is)
-      words_go (word ∷ left) now before tail is words again =
-          (inside_prefix n 2 now before is,
-          words_go left (record now { words = now.words ++ word ∷ [] }) (word_record n word ∷ before) tail (with_word now word left before is words) (append_assoc now.words (word ∷ []) left ∙ words) again)
+      words_go (word ∷ left) now before tail is words again = (
+        inside_prefix n 2 now before is,
+        words_go left (record now { words = now.words ++ word ∷ [] }) (word_record n word ∷ before) tail (with_word now word left before is words) (append_assoc now.words (word ∷ []) left ∙ words) again,
+      )
 
       lines_go : (now : Input) (lines : ℕ) (before tail : List Record) → IsInside n now 2 before → ((before' : List Record) → IsInside n (record now { lines = lines }) 3 before' → EachPrefix IsRunPrefix before' tail)
           → EachPrefix IsRunPrefix before (lines_records n now.lines lines ++ tail)
@@ -317,12 +318,12 @@ module _ {S : Type 0} (m : Machine S) (start : S) (turns : List Turn) (cause : E
         let n = length turns in
         record {
           fits =
-          whole_more m start (End n cause) before is.fits
-          (stop_none m start (End n cause) before (admitted before (End n cause) (before_more before n 1 4 is.ordered (omega arith)))
-          (first_none n (End n cause) before is.below (omega arith) (λ k lt. end_follows k))
-          (ap (λ (input : Input). end_fault n cause input.supplied (last_power m start (tape_of before) n)) is.here
-          ∙ ap (λ o. cond (end_agrees cause o) None (Some (fault_at n EndsElsewhere))) (last_power-same m start n (tape_of before) (run_tape turns) is.below)
-          ∙ ap (λ b. cond b None (Some (fault_at n EndsElsewhere))) (end_right n refl)));
+              whole_more m start (End n cause) before is.fits
+              (stop_none m start (End n cause) before (admitted before (End n cause) (before_more before n 1 4 is.ordered (omega arith)))
+              (first_none n (End n cause) before is.below (omega arith) (λ k lt. end_follows k))
+              (ap (λ (input : Input). end_fault n cause input.supplied (last_power m start (tape_of before) n)) is.here
+              ∙ ap (λ o. cond (end_agrees cause o) None (Some (fault_at n EndsElsewhere))) (last_power-same m start n (tape_of before) (run_tape turns) is.below)
+              ∙ ap (λ b. cond b None (Some (fault_at n EndsElsewhere))) (end_right n refl)));
           below = λ k lt. tape_more k (End n cause) before lt ∙ is.below k lt;
           begun = subst (λ (input : Input). IsPrefix input.words (run_tape turns n).words) (sym (joined_nothing (tape_of before n) ∙ is.here)) is.begun;
           within = omega arith;

@@ -35,9 +35,9 @@ module _ {S B : Type 0} (m : Machine S) (board : Board S B) where
   -- a step with this input, of which the board is left so
   with_input : (left n held : ℕ) (s : S) (words : List DmaWord) (lines : ℕ) (supplied : Option Supplied) (b : B)
       → let input : Input = record { words = words; lines = lines; supplied = supplied } in
-        let turn = turn_of m s input in
-        items_from n held (run_after m board (run_from m board left (suc n)) n turn (after m s input) (board.stored n b turn.event (after m s input)) (power_status turn.event))
-        ≡ map plain_item (map (word_record n) words) ++ (map plain_item (lines_records n held lines) ++ (map plain_item (load_records n supplied) ++ at_step m board left n lines (touched m s words) b supplied))
+      let turn = turn_of m s input in
+      items_from n held (run_after m board (run_from m board left (suc n)) n turn (after m s input) (board.stored n b turn.event (after m s input)) (power_status turn.event))
+      ≡ map plain_item (map (word_record n) words) ++ (map plain_item (lines_records n held lines) ++ (map plain_item (load_records n supplied) ++ at_step m board left n lines (touched m s words) b supplied))
   with_input left n held s words lines supplied b =
       let input : Input = record { words = words; lines = lines; supplied = supplied } in
       let turn = turn_of m s input in
@@ -48,9 +48,9 @@ module _ {S B : Type 0} (m : Machine S) (board : Board S B) where
   -- whatever it needs
   by_need : (left n held : ℕ) (s : S) (words : List DmaWord) (lines : ℕ) (b : B) (need : Need)
       → let given = served_by (board.load n b) words lines b need in
-        let turn = turn_of m s given.input in
-        items_from n held (run_after m board (run_from m board left (suc n)) n turn (after m s given.input) (board.stored n given.board turn.event (after m s given.input)) (power_status turn.event))
-        ≡ map plain_item (map (word_record n) words) ++ (map plain_item (lines_records n held lines) ++ with_load m board left n lines (touched m s words) b need)
+      let turn = turn_of m s given.input in
+      items_from n held (run_after m board (run_from m board left (suc n)) n turn (after m s given.input) (board.stored n given.board turn.event (after m s given.input)) (power_status turn.event))
+      ≡ map plain_item (map (word_record n) words) ++ (map plain_item (lines_records n held lines) ++ with_load m board left n lines (touched m s words) b need)
   by_need left n held s words lines b (Load address width) = with_input left n held s words lines (Some (board.load n b address).0) (board.load n b address).1
   by_need left n held s words lines b Nothing = with_input left n held s words lines None b
 

@@ -1,5 +1,5 @@
 //! The law that a run's own log fits.
-ghost use Rattle.any_machine.specs.Law.{PrefixesFit, WholeShowsAll};
+ghost use Rattle.any_machine.specs.Law.{PrefixesFit, PrefixesShowSteps, WholeShowsAll};
 
 use crate::Hart;
 
@@ -7,5 +7,6 @@ use crate::Hart;
 /// first events, as many as its reach, and of the whole log they are all.
 pub fn prefix_fits<H: Hart>()
     ensures fits { PrefixesFit H.machine }
+    ensures by_steps { PrefixesShowSteps H.machine H.done }
     ensures whole { WholeShowsAll H.machine }
 {}
