@@ -1,10 +1,11 @@
 -- The events of a run stand at its steps, so its first events are found in the list of its events by their steps.
-use Rattle.std.proofs.Common.{◌≡◌, ◌⊎◌, inl, inr, ℕ, zero, suc, ◌+◌, ◌<◌, ◌≤◌, Bool, true, false, cond, List, [], ◌∷◌, ◌++◌, length, take, Option, Some, None, refl, sym, ap, subst, ◌∙◌, arith, append-nil}
+use Rattle.std.proofs.Common.{◌≡◌, ◌⊎◌, inl, inr, ℕ, zero, suc, ◌+◌, ◌<◌, ◌≤◌, Bool, true, false, List, [], ◌∷◌, ◌++◌, length, take, Option, Some, None, refl, sym, ap, subst, ◌∙◌, arith, append-nil}
 use Rattle.std.specs.Prelude.{◌&&◌, ◌==◌, nat_lt, slice_get}
 use Rattle.std.specs.List.{filter, AllByRecursion}
 use Rattle.std.proofs.lemmas.Bool.Decides.{nat_tests}
 use Rattle.std.proofs.lemmas.List.{take-append-le}
 use Rattle.std.proofs.lemmas.List.Elements.{filter-append}
+use Rattle.list_laws.proofs.AllLaws.{all_append, all_through, filter-kept, filter-dropped}
 use Rattle.run_events.specs.declared.event.Event.{Event}
 use Rattle.run_events.specs.declared.record.EndCause.{EndCause}
 use Rattle.run_events.specs.declared.supply.DmaWord.{DmaWord}
@@ -63,24 +64,6 @@ module _ {S : Type 0} (m : Machine S) (done : S → ℕ) (counts : CountsSteps m
   -- the events of a run stand at its steps
   pub run_stands : (start : S) (run : Finished) → done start ≡ 0 → Runs m start run → TurnsStand 0 run.turns
   run_stands start run first runs = subst (λ n. TurnsStand n run.turns) first (run_turns_stand start start run.turns run.cause runs.is_run)
-
--- What a test keeps of a list of which it is true, or false, everywhere.
-module _ {X : Type 0} (test : X → Bool) where
-  filter-kept : (xs : List X) → AllByRecursion (λ x. test x ≡ true) xs → filter test xs ≡ xs
-  filter-kept [] all = refl
-  filter-kept (x ∷ xs) all = ap (λ b. cond b (x ∷ filter test xs) (filter test xs)) all.0 ∙ ap (λ l. x ∷ l) (filter-kept xs all.1)
-
-  filter-dropped : (xs : List X) → AllByRecursion (λ x. test x ≡ false) xs → filter test xs ≡ []
-  filter-dropped [] all = refl
-  filter-dropped (x ∷ xs) all = ap (λ b. cond b (x ∷ filter test xs) (filter test xs)) all.0 ∙ filter-dropped xs all.1
-
-all_through : {X : Type 0} {P Q : X → Type 0} → ((x : X) → P x → Q x) → (xs : List X) → AllByRecursion P xs → AllByRecursion Q xs
-all_through each [] all = tt
-all_through each (x ∷ xs) all = (each x all.0, all_through each xs all.1)
-
-all_append : {X : Type 0} (P : X → Type 0) (xs ys : List X) → AllByRecursion P xs → AllByRecursion P ys → AllByRecursion P (xs ++ ys)
-all_append P [] ys here there = there
-all_append P (x ∷ xs) ys here there = (here.0, all_append P xs ys here.1 there)
 
 -- all events of a turn, and of turns from a step on
 turn_events : (n : ℕ) (turn : Turn) → TurnStands n turn → AllByRecursion (λ event. step_of event ≡ n) (events_in turn)
