@@ -1,12 +1,12 @@
 -- Each prefix of a run's own log is taken whole: the records of the run are pushed one after another.
 use Rattle.std.proofs.Common.{◌≡◌, ◌⊎◌, inl, inr, ℕ, zero, suc, ◌<◌, ◌≤◌, Bool, true, false, cond, List, [], ◌∷◌, ◌++◌, length, drop, map, reverse, Option, Some, None, refl, sym, ap, subst, ◌∙◌, arith, below_more, append_assoc, append-nil, length-append, length-drop}
 use Rattle.std.specs.Prelude.{◌==◌, ◌%◌, ◌&&◌, ◌||◌, nat_le, is_some, slice_get}
-use Rattle.std.specs.List.{AllByRecursion}
 use Rattle.std.proofs.lemmas.Bool.Decides.{nat_tests}
 use Rattle.std.proofs.lemmas.List.{reverse-append}
 use Rattle.std.proofs.lemmas.Option.{slice_get_within}
 use Rattle.list_laws.specs.Prefix.{IsPrefix}
-use Rattle.list_laws.proofs.PlaceLaws.{dropped-at}
+use Rattle.list_laws.proofs.AllLaws.{all-middle}
+use Rattle.list_laws.proofs.PlaceLaws.{dropped-at, dropped-next, there_within}
 use Rattle.list_laws.proofs.PrefixLaws.{empty_IsPrefix, whole_IsPrefix}
 use Rattle.run_events.specs.declared.fault.Why.TheVariants.{BadDma, EndsElsewhere}
 use Rattle.run_events.specs.declared.record.EndCause.{EndCause}
@@ -68,20 +68,6 @@ lines_told n k lines before le = ap (λ c. joined_with (tape_of before k) (cond 
 load_at_step : (n k : ℕ) (b : Bool) (supplied : Supplied) (before : List Record) → (n == k) ≡ b
     → tape_of (Load n supplied.value supplied.mark ∷ before) k ≡ joined_with (tape_of before k) None (cond b (Some supplied) None) []
 load_at_step n k b supplied before is = ap (λ c. joined_with (tape_of before k) None (cond c (Some supplied) None) []) is
-
-all_middle : {X : Type 0} (P : X → Type 0) (xs : List X) (y : X) (zs whole' : List X) → AllByRecursion P whole' → xs ++ y ∷ zs ≡ whole' → P y
-all_middle P [] y zs whole' all is = (subst (AllByRecursion P) (sym is) all).0
-all_middle P (x ∷ xs) y zs whole' all is = all_middle P xs y zs (xs ++ y ∷ zs) (subst (AllByRecursion P) (sym is) all).1 refl
-
-dropped-next : {X : Type 0} (k : ℕ) (xs : List X) (x : X) (rest : List X) → drop k xs ≡ x ∷ rest → drop (suc k) xs ≡ rest
-dropped-next zero xs x rest is = ap (drop 1) is
-dropped-next (suc k) [] x rest is = cc
-dropped-next (suc k) (y ∷ xs) x rest is = dropped-next k xs x rest is
-
-turn_there : (turns : List Turn) (k : ℕ) → k < length turns → (turn : Turn) × (slice_get turns k ≡ Some turn)
-turn_there [] k lt = absurd (omega (arith, lt))
-turn_there (turn ∷ turns) zero lt = (turn, refl)
-turn_there (turn ∷ turns) (suc k) lt = turn_there turns k (omega (arith, lt))
 
 module _ {S : Type 0} (m : Machine S) (start : S) (turns : List Turn) (cause : EndCause) where
   -- records of a run so far that are taken whole, agree with its inputs below their reach, and there have a prefix of its
@@ -152,7 +138,7 @@ module _ {S : Type 0} (m : Machine S) (start : S) (turns : List Turn) (cause : E
 
     stops_not : (k : ℕ) (item : Record) → k < length turns → FollowsPower k item → stop_at m start (run_tape turns) item k ≡ None
     stops_not k item lt follows =
-        let there = turn_there turns k lt in
+        let there = there_within turns k lt in
         let is = turn_is m start start turns cause runs k there.0 there.1 in
         ap (λ o. step_stop k o (power_at m start (run_tape turns) k) item) is.supplied ∙ ap (λ (t : Turn). power_stop k (power_status t.event) item) is.does
         ∙ power_stops_not (power_status there.0.event) k item is.ends follows
@@ -179,16 +165,16 @@ module _ {S : Type 0} (m : Machine S) (start : S) (turns : List Turn) (cause : E
       with_word : (now : Input) (word : DmaWord) (left : List DmaWord) (before : List Record) → IsInside n now 2 before → now.words ++ word ∷ left ≡ turn.input.words → IsInside n (record now { words = now.words ++ word ∷ [] }) 2 (word_record n word ∷ before)
       with_word now word left before is words =
           let few : dmas_at n before < 128 = omega (arith, dmas_at-words n before, ap (λ (input : Input). length input.words) is.here, length-append now.words (word ∷ left), ap length words, is_turn.may_take.few) in
-          let held : m.holds start word.address ≡ true = all_middle (λ w. m.holds start w.address ≡ true) now.words word left turn.input.words is_turn.may_take.held words in
+          let held : m.holds start word.address ≡ true = all-middle (λ w. m.holds start w.address ≡ true) now.words word left turn.input.words is_turn.may_take.held words in
           record {
             ordered = (refl, inr (refl, omega arith));
             below = λ k lt. tape_more k (word_record n word) before lt ∙ is.below k lt;
             here = word_at n n true word before (same_number n) ∙ ap (λ input. joined_with input None None (word ∷ [])) is.here;
             later = λ k lt. word_at n k false word before (not_number n k lt) ∙ joined_nothing (tape_of before k) ∙ is.later k lt;
             fits =
-            whole_more m start (word_record n word) before is.fits
-            (stop_none m start (word_record n word) before (admitted_word before n word.address word.word word.mark is.ordered few) (first_inside_none (word_record n word) before is.below)
-            (ap (λ b. cond b None (Some (fault_at n BadDma))) held));
+                whole_more m start (word_record n word) before is.fits
+                (stop_none m start (word_record n word) before (admitted_word before n word.address word.word word.mark is.ordered few) (first_inside_none (word_record n word) before is.below)
+                (ap (λ b. cond b None (Some (fault_at n BadDma))) held));
             begun = record { rest = left; joined = append_assoc now.words (word ∷ []) left ∙ words ∙ ap (λ (input : Input). input.words) (sym is_turn.input) };
             within = is.within;
           }
@@ -200,8 +186,8 @@ module _ {S : Type 0} (m : Machine S) (start : S) (turns : List Turn) (cause : E
         here = lines_told n n lines before (omega arith) ∙ ap (λ input. joined_with input (Some lines) None []) is.here ∙ ap (λ l. record { words = l; lines = lines; supplied = now.supplied }) (append-nil now.words);
         later = λ k lt. lines_told n k lines before (omega (arith, lt)) ∙ ap (λ input. joined_with input (Some lines) None []) (is.later k lt);
         fits =
-        whole_more m start (Lines n lines) before is.fits
-        (stop_none m start (Lines n lines) before (admitted before (Lines n lines) is.ordered) (first_inside_none (Lines n lines) before is.below) refl);
+            whole_more m start (Lines n lines) before is.fits
+            (stop_none m start (Lines n lines) before (admitted before (Lines n lines) is.ordered) (first_inside_none (Lines n lines) before is.below) refl);
         begun = is.begun;
         within = is.within;
       }
@@ -213,8 +199,8 @@ module _ {S : Type 0} (m : Machine S) (start : S) (turns : List Turn) (cause : E
         here = load_at_step n n true supplied before (same_number n) ∙ ap (λ input. joined_with input None (Some supplied) []) is.here ∙ ap (λ l. record { words = l; lines = now.lines; supplied = Some supplied }) (append-nil now.words);
         later = λ k lt. load_at_step n k false supplied before (not_number n k lt) ∙ joined_nothing (tape_of before k) ∙ is.later k lt;
         fits =
-        whole_more m start (Load n supplied.value supplied.mark) before is.fits
-        (stop_none m start (Load n supplied.value supplied.mark) before (admitted before (Load n supplied.value supplied.mark) is.ordered) (first_inside_none (Load n supplied.value supplied.mark) before is.below) refl);
+            whole_more m start (Load n supplied.value supplied.mark) before is.fits
+            (stop_none m start (Load n supplied.value supplied.mark) before (admitted before (Load n supplied.value supplied.mark) is.ordered) (first_inside_none (Load n supplied.value supplied.mark) before is.below) refl);
         begun = is.begun;
         within = is.within;
       }
@@ -241,8 +227,8 @@ module _ {S : Type 0} (m : Machine S) (start : S) (turns : List Turn) (cause : E
         here = joined_nothing (tape_of before (suc n)) ∙ is.here;
         later = λ k lt. joined_nothing (tape_of before k) ∙ is.later k lt;
         fits =
-        whole_more m start (Reach (suc n)) before is.fits
-        (stop_none m start (Reach (suc n)) before (admitted before (Reach (suc n)) is.ordered) (first_none (suc n) (Reach (suc n)) before is.below is.within reach_follows) refl);
+            whole_more m start (Reach (suc n)) before is.fits
+            (stop_none m start (Reach (suc n)) before (admitted before (Reach (suc n)) is.ordered) (first_none (suc n) (Reach (suc n)) before is.below is.within reach_follows) refl);
         begun = is.begun;
         within = is.within;
       }
@@ -252,9 +238,10 @@ module _ {S : Type 0} (m : Machine S) (start : S) (turns : List Turn) (cause : E
           → ((before' : List Record) → IsInside n (record now { words = turn.input.words }) 2 before' → EachPrefix IsRunPrefix before' tail) → EachPrefix IsRunPrefix before (map (word_record n) words ++ tail)
       words_go [] now before tail is words again =
           again before (subst (λ l. IsInside n (record now { words = l }) 2 before) (sym (append-nil now.words) ∙ words) is)
-      words_go (word ∷ left) now before tail is words again =
-          (inside_prefix n 2 now before is,
-          words_go left (record now { words = now.words ++ word ∷ [] }) (word_record n word ∷ before) tail (with_word now word left before is words) (append_assoc now.words (word ∷ []) left ∙ words) again)
+      words_go (word ∷ left) now before tail is words again = (
+        inside_prefix n 2 now before is,
+        words_go left (record now { words = now.words ++ word ∷ [] }) (word_record n word ∷ before) tail (with_word now word left before is words) (append_assoc now.words (word ∷ []) left ∙ words) again,
+      )
 
       lines_go : (now : Input) (lines : ℕ) (before tail : List Record) → IsInside n now 2 before → ((before' : List Record) → IsInside n (record now { lines = lines }) 3 before' → EachPrefix IsRunPrefix before' tail)
           → EachPrefix IsRunPrefix before (lines_records n now.lines lines ++ tail)
@@ -304,7 +291,7 @@ module _ {S : Type 0} (m : Machine S) (start : S) (turns : List Turn) (cause : E
         at_limit [] runs' none' = runs'
         at_limit (turn ∷ rest) runs' none' = absurd (omega (arith, none'))
     end_right (suc k) last =
-        let there = turn_there turns k (omega (arith, last)) in
+        let there = there_within turns k (omega (arith, last)) in
         let is = turn_is m start start turns cause runs k there.0 there.1 in
         ap (λ (t : Turn). end_agrees cause (power_status t.event)) is.does ∙ by (power_status there.0.event) is.ends
       where
@@ -317,12 +304,12 @@ module _ {S : Type 0} (m : Machine S) (start : S) (turns : List Turn) (cause : E
         let n = length turns in
         record {
           fits =
-          whole_more m start (End n cause) before is.fits
-          (stop_none m start (End n cause) before (admitted before (End n cause) (before_more before n 1 4 is.ordered (omega arith)))
-          (first_none n (End n cause) before is.below (omega arith) (λ k lt. end_follows k))
-          (ap (λ (input : Input). end_fault n cause input.supplied (last_power m start (tape_of before) n)) is.here
-          ∙ ap (λ o. cond (end_agrees cause o) None (Some (fault_at n EndsElsewhere))) (last_power-same m start n (tape_of before) (run_tape turns) is.below)
-          ∙ ap (λ b. cond b None (Some (fault_at n EndsElsewhere))) (end_right n refl)));
+              whole_more m start (End n cause) before is.fits
+              (stop_none m start (End n cause) before (admitted before (End n cause) (before_more before n 1 4 is.ordered (omega arith)))
+              (first_none n (End n cause) before is.below (omega arith) (λ k lt. end_follows k))
+              (ap (λ (input : Input). end_fault n cause input.supplied (last_power m start (tape_of before) n)) is.here
+              ∙ ap (λ o. cond (end_agrees cause o) None (Some (fault_at n EndsElsewhere))) (last_power-same m start n (tape_of before) (run_tape turns) is.below)
+              ∙ ap (λ b. cond b None (Some (fault_at n EndsElsewhere))) (end_right n refl)));
           below = λ k lt. tape_more k (End n cause) before lt ∙ is.below k lt;
           begun = subst (λ (input : Input). IsPrefix input.words (run_tape turns n).words) (sym (joined_nothing (tape_of before n) ∙ is.here)) is.begun;
           within = omega arith;

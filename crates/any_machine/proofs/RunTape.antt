@@ -73,8 +73,8 @@ module _ {S : Type 0} (m : Machine S) (start : S) where
     input = refl;
     does = ap (λ t. turn_of m t turn.input) (state_at-zero m s (run_tape (turn ∷ turns))) ∙ sym runs.0.does;
     supplied =
-    ap (λ t. supply_fault (is_load (need_of m t turn.input)) (is_some turn.input.supplied)) (state_at-zero m s (run_tape (turn ∷ turns)))
-    ∙ given_right (is_load (need_of m s turn.input)) (is_some turn.input.supplied) runs.0.given;
+        ap (λ t. supply_fault (is_load (need_of m t turn.input)) (is_some turn.input.supplied)) (state_at-zero m s (run_tape (turn ∷ turns)))
+        ∙ given_right (is_load (need_of m s turn.input)) (is_some turn.input.supplied) runs.0.given;
     may_take = runs.0.may_take;
     ends = first_ends (power_status turn.event) turns cause (IsRun m start (after m s turn.input) turns cause) (λ none rest. subst (λ l. IsRun m start (after m s turn.input) l cause) none rest) runs.1;
   }

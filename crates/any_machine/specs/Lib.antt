@@ -4,4 +4,6 @@ pub mod Log
 pub mod Tape
 pub mod Replay
 pub mod Held
+pub mod Carries
 pub mod Recorder
+pub mod Law

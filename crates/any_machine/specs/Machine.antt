@@ -4,6 +4,7 @@ use Rattle.std.specs.List.{AllByRecursion}
 use Rattle.std.proofs.Common.{suc}
 use Rattle.memory_map.specs.declared.TheConstants.{SERIAL_DATA, POWER}
 use Rattle.run_events.specs.declared.event.Event.{Event}
+use Rattle.run_events.specs.declared.event.Event.TheVariants.{Dma}
 use Rattle.run_events.specs.declared.supply.DmaWord.{DmaWord}
 use Rattle.run_events.specs.declared.supply.Need.{Need}
 use Rattle.run_events.specs.declared.supply.Need.TheVariants.{Load, Nothing}
@@ -81,12 +82,12 @@ module _ {S : Type 0} (m : Machine S) where
   abbrev pub turn_of : S → Input → Turn
   turn_of s input = record { input = input; writes = writes_of s input.words; event = event_of s input }
 
-  -- a count of the steps done: it rises by one a step, and each event stands at the step that it tells
+  -- a count of the steps done: it rises by one a step, each event tells it, and a word's event tells the word
   pub record CountsSteps (done : S → ℕ) : Type 0 where
     pub stepped : (s : S) (lines : ℕ) (supplied : Option Supplied) → done (m.step s lines supplied).1 ≡ suc (done s)
     pub touched_not : (s : S) (word : DmaWord) → done (m.touch s word).1 ≡ done s
     pub step_told : (s : S) (lines : ℕ) (supplied : Option Supplied) → step_of (m.step s lines supplied).0 ≡ done s
-    pub word_told : (s : S) (word : DmaWord) → step_of (m.touch s word).0 ≡ done s
+    pub word_told : (s : S) (word : DmaWord) → (m.touch s word).0 ≡ Dma (done s) word.address word.word word.mark
 
 -- a mark that a device register gave with its value is in range
 abbrev pub IsMarked : Option Supplied → Type 0

@@ -1,14 +1,16 @@
 -- The one machine with its board, run to its end; and what makes a list of turns a run, without the board.
 use Rattle.std.proofs.Common.{zero, suc}
-use Rattle.std.specs.Prelude.{◌≡◌, ℕ, List, [], ◌∷◌, ◌++◌, length, take, slice_get, Option, None, Some, is_some}
-use Rattle.std.specs.List.{flat_map}
+use Rattle.std.specs.Prelude.{◌≡◌, ℕ, Bool, true, false, ◌&&◌, ◌==◌, nat_lt, List, [], ◌∷◌, ◌++◌, length, take, slice_get, Option, None, Some, is_some}
+use Rattle.std.specs.List.{filter, flat_map}
 use Rattle.run_events.specs.declared.event.Event.{Event}
+use Rattle.run_events.specs.declared.event.Event.TheVariants.{Dma, Irq, Trap, Exec}
 use Rattle.run_events.specs.declared.record.EndCause.{EndCause}
 use Rattle.run_events.specs.declared.record.EndCause.TheVariants.{Power, Limit}
 use Rattle.run_events.specs.declared.supply.DmaWord.{DmaWord}
 use Rattle.run_events.specs.declared.supply.Need.{Need}
 use Rattle.run_events.specs.declared.supply.Need.TheVariants.{Load, Nothing}
 use Rattle.run_events.specs.declared.supply.Supplied.{Supplied}
+use Rattle.run_events.specs.Event.{step_of}
 use Rattle.any_machine.specs.Machine.{Machine, Board, Input, Turn, IsInput, power_status, is_load, touched, need_of, after, turn_of}
 
 -- a run to its end: its turns, the number of steps, and why it ended
@@ -101,3 +103,16 @@ writes_in (Some turn) = turn.writes
 -- the first events of a run: those of its first n steps, and the first w words of the step that follows
 abbrev pub first_events : ℕ → ℕ → List Turn → List Event
 first_events n w turns = events_of (take n turns) ++ take w (writes_in (slice_get turns n))
+
+-- Of a list of events: those of the steps below a number, with their words; and those of the words of a step.
+abbrev pub is_word : Event → Bool
+is_word (Dma step address word mark) = true
+is_word (Irq step pc cause next) = false
+is_word (Trap step pc word cause value next) = false
+is_word (Exec step pc word next result access told) = false
+
+abbrev pub events_before : ℕ → List Event → List Event
+events_before n events = filter (λ event. nat_lt (step_of event) n) events
+
+abbrev pub words_before : ℕ → List Event → List Event
+words_before n events = filter (λ event. is_word event && step_of event == n) events

@@ -38,8 +38,8 @@ pub trait Hart {
         ensures size { ram_size self.new ≡ ram_size self.old }
         ensures fits { (ram_kib : ℕ) → ram_size self.old ≡ 1024 * ram_kib → Fits ram_kib result };
 
-    /// Does the next step if it is a plain one, which loads no device register, and leaves what it shows in `event`. It
-    /// may always answer false; then the hart is as before.
+    /// Does the next step where it is one that the hart does fast, which loads no device register, and leaves what it
+    /// shows in `event`. Where it answers false the hart is as before, and `step` does the step.
     fn try_step(&mut self, lines: u8, event: &mut Event) -> bool
         requires room { done self.old < 1000000000 }
         ensures same { result ≡ false → self.new ≡ self.old }

@@ -2,5 +2,7 @@
 #![tactic(auto)]
 
 mod hart;
+mod law;
 
 pub use hart::Hart;
+pub use law::prefix_fits;

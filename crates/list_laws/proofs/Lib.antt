@@ -1,3 +1,4 @@
+pub mod AllLaws
 pub mod OptionLaws
 pub mod PlaceLaws
 pub mod PrefixLaws

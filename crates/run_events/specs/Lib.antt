@@ -1,2 +1,4 @@
 pub mod Event
 pub mod Record
+pub mod Sequence
+pub mod Words

@@ -1,5 +1,5 @@
 -- Which records there are, and in which order they may stand.
-use Rattle.std.specs.Prelude.{ℕ, ◌+◌, ◌≤◌, Bool, true, not, ◌&&◌, ◌||◌, ◌==◌, nat_lt, List, [], ◌∷◌, reverse, if◌then◌else◌}
+use Rattle.std.specs.Prelude.{ℕ, ◌+◌, ◌≤◌, Bool, true, false, not, ◌&&◌, ◌||◌, ◌==◌, nat_lt, List, [], ◌∷◌, reverse, Option, None, Some, if◌then◌else◌}
 use Rattle.run_events.specs.declared.record.Record.{Record}
 use Rattle.run_events.specs.declared.record.Record.TheVariants.{Load, Lines, Dma, Reach, End}
 
@@ -19,7 +19,7 @@ IsNumber step = step ≤ 1000000000
 abbrev pub IsMark : ℕ → Type 0
 IsMark mark = mark ≤ 1
 
--- the record is one that has a spelling: its number, its lines and its mark are in range
+-- the record's number, its lines and its mark are in range
 abbrev pub IsRecord : Record → Type 0
 IsRecord (Load step value mark) = IsNumber step × IsMark mark
 IsRecord (Lines step bits) = IsNumber step × (bits ≤ 3)
@@ -63,6 +63,21 @@ is_ordered_back (last ∷ before) = is_admitted before last && is_ordered_back b
 -- and read in order
 abbrev pub is_ordered : List Record → Bool
 is_ordered items = is_ordered_back (reverse items)
+
+-- the last of some records, which is given first
+abbrev pub newest : List Record → Option Record
+newest [] = None
+newest (last ∷ before) = Some last
+
+-- how many words of the disk have the last record's number, where it is one; it is given first
+abbrev pub newest_dmas : List Record → ℕ
+newest_dmas [] = 0
+newest_dmas (last ∷ before) = if is_dma last then dmas_at (number last) (last ∷ before) else 0
+
+-- a record is a word of the disk, as the last one is, and has its number
+abbrev pub is_next_dma : Option Record → Record → Bool
+is_next_dma None item = false
+is_next_dma (Some last) item = is_dma last && (is_dma item && number last == number item)
 
 -- how far a list of records comes: the number of its last one
 abbrev pub reach_back : List Record → ℕ

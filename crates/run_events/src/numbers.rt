@@ -1,0 +1,53 @@
+//! The number and the range of a record.
+ghost use Rattle.std.specs.Prelude.{◌≡◌, ◌↔◌, IsTrue};
+ghost use Rattle.run_events.specs.Record as order;
+ghost use Rattle.run_events.specs.Words.{HasWords};
+
+use crate::{EndCause, Record};
+
+// The largest number of a record.
+const LAST_NUMBER: u32 = 1_000_000_000;
+
+/// The number of a record.
+pub fn number(r: &Record) -> u32
+    ensures { result ≡ order.number r.now }
+{
+    match r {
+        Record::Load { step, .. }
+        | Record::Lines { step, .. }
+        | Record::Dma { step, .. }
+        | Record::Reach { step }
+        | Record::End { step, .. } => *step,
+    }
+}
+
+// The place of a record among those of its number.
+pub(crate) fn rank(r: &Record) -> u32
+    ensures { result ≡ order.rank r.now }
+{
+    match r {
+        Record::Reach { .. } => 0,
+        Record::Dma { .. } => 1,
+        Record::Lines { .. } => 2,
+        Record::Load { .. } => 3,
+        Record::End { .. } => 4,
+    }
+}
+
+/// Whether a record has words: its number, its lines and its mark are in range.
+pub fn is_record(r: &Record) -> bool
+    ensures { IsTrue result ↔ HasWords r.now }
+{
+    match r {
+        Record::Load { step, mark, .. } | Record::Dma { step, mark, .. } => {
+            *step <= LAST_NUMBER && *mark <= 1
+        }
+        Record::Lines { step, bits } => *step <= LAST_NUMBER && *bits <= 3,
+        Record::Reach { step } => *step <= LAST_NUMBER,
+        Record::End {
+            cause: EndCause::Stuck,
+            ..
+        } => false,
+        Record::End { step, .. } => *step <= LAST_NUMBER,
+    }
+}
