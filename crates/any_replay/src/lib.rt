@@ -1,0 +1,9 @@
+//! The replay of any hart: it is fed a list of records, and says where the list does not fit.
+#![tactic(auto)]
+
+mod fault;
+mod replay;
+mod running;
+mod standing;
+
+pub use replay::Replay;
