@@ -5,5 +5,7 @@ mod fault;
 mod replay;
 mod running;
 mod standing;
+#[cfg(test)]
+mod tests;
 
 pub use replay::Replay;
