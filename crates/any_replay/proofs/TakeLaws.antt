@@ -14,7 +14,8 @@ use Rattle.any_machine.proofs.CarriesLaws.{take_is, still, fed_nothing}
 use Rattle.any_replay.specs.declared.replay.Replay.{Replay}
 use Rattle.any_replay.specs.declared.standing.Standing.{Standing}
 use Rattle.any_replay.specs.Standing.{held_of}
-use Rattle.any_replay.specs.Replays.{Replays, Judges}
+use Rattle.any_replay.specs.Replays.{Replays}
+use Rattle.any_replay.specs.Taking.{Judges}
 
 module _ {S : Type 0} (m : Machine S) (done ram_size : S → ℕ) where
   -- before the first record

@@ -1,2 +1,3 @@
 pub mod Standing
 pub mod Replays
+pub mod Taking

@@ -1,12 +1,11 @@
 -- What a replay stands for: the list of the records that it was fed, of which the last is given first.
-use Rattle.std.specs.Prelude.{◌≡◌, ℕ, ◌+◌, ◌-◌, ◌^◌, min, List, ◌∷◌, Option, None, Some, Result, Ok, Err}
-use Rattle.run_events.specs.declared.fault.Diverged.{Diverged}
+use Rattle.std.specs.Prelude.{◌≡◌, ℕ, List, ◌∷◌, ◌++◌, None}
+use Rattle.run_events.specs.declared.event.Event.{Event}
 use Rattle.run_events.specs.declared.record.Record.{Record}
 use Rattle.run_events.specs.Sequence.{InOrder}
 use Rattle.any_machine.specs.Machine.{Machine, touched}
 use Rattle.any_machine.specs.Tape.{tape_of}
-use Rattle.any_machine.specs.Replay.{Outcome, state_at, outcome}
-use Rattle.any_machine.specs.Held.{held_take}
+use Rattle.any_machine.specs.Replay.{Outcome, state_at, outcome, shown_by}
 use Rattle.any_machine.specs.Carries.{Carries}
 use Rattle.any_replay.specs.declared.replay.Replay.{Replay}
 use Rattle.any_replay.specs.Standing.{held_of}
@@ -22,16 +21,13 @@ pub record Replays {H : Type 0} (m : Machine H) (done ram_size : H → ℕ) (sta
   pub order : replay.diverged ≡ None → InOrder items replay.order
   pub ram : ram_size start ≡ ram_size replay.standing.hart
 
--- a record after these has this fault, and leaves this
-pub record Judges {H : Type 0} (m : Machine H) (done : H → ℕ) (start : H) (before : List Record) (item : Record) (old new' : Replay H) (fault : Option Diverged) : Type 0 where
-  pub taken : held_take m start before item (held_of done old.standing) ≡ (fault, held_of done new'.standing)
-  pub order : fault ≡ None → InOrder (item ∷ before) new'.order
+-- one record more, whatever list it was fed before
+abbrev pub KeepsReplaying : {H : Type 0} → Machine H → (H → ℕ) → (H → ℕ) → Record → Replay H → Replay H → Type 0
+KeepsReplaying {H = H} m done ram_size item old new' =
+    (start : H) (before : List Record) → Replays m done ram_size start before old → Replays m done ram_size start (item ∷ before) new'
 
-abbrev pub answer_of : Option Diverged → Result Unit Diverged
-answer_of None = Ok tt
-answer_of (Some diverged) = Err diverged
-
--- the number of records accepted, which stops at the largest number of its type
-abbrev pub takes_after : ℕ → Option Diverged → ℕ
-takes_after takes None = min (takes + 1) (2 ^ 64 - 1)
-takes_after takes (Some diverged) = takes
+-- and what was shown of that list is followed by what the record shows
+abbrev pub KeepsShowing : {H : Type 0} → Machine H → (H → ℕ) → (H → ℕ) → Record → Replay H → (List Event → Type 0) → (List Event → Type 0) → Type 0
+KeepsShowing {H = H} m done ram_size item old Seen SeenNow =
+    (start : H) (before : List Record) (h : List Event) → Replays m done ram_size start before old
+    → Seen (h ++ shown_by m start (outcome m start before)) → SeenNow (h ++ shown_by m start (outcome m start (item ∷ before)))

@@ -1,5 +1,6 @@
 -- What a standing stands for.
-use Rattle.std.specs.Prelude.{◌≡◌, ℕ, true}
+use Rattle.std.specs.Prelude.{◌≡◌, ℕ, true, List, ◌++◌}
+use Rattle.run_events.specs.declared.event.Event.{Event}
 use Rattle.run_events.specs.declared.record.Record.{Record}
 use Rattle.run_events.specs.declared.record.Record.TheVariants.{Load, Lines, Dma, Reach, End}
 use Rattle.any_machine.specs.Machine.{Machine}
@@ -17,3 +18,7 @@ IsWordHeld m hart (Load step value mark) = Unit {0}
 IsWordHeld m hart (Lines step bits) = Unit {0}
 IsWordHeld m hart (Reach step) = Unit {0}
 IsWordHeld m hart (End step cause) = Unit {0}
+
+-- what was seen, and these events after it, is seen now
+abbrev pub SeesMore : (List Event → Type 0) → (List Event → Type 0) → List Event → Type 0
+SeesMore Seen SeenNow events = (h : List Event) → Seen h → SeenNow (h ++ events)

@@ -76,7 +76,8 @@ fn end_fault(
 
 // What is wrong with a record by itself, where all steps below its number are done.
 fn own_fault<H: Hart>(standing: &Standing<H>, item: &Record) -> Option<Diverged>
-    ensures { (start : H) → H.ram_size start ≡ H.ram_size standing.now.hart → result ≡ model.own_fault H.machine start item.now standing.now.load standing.now.power }
+    ensures { (start : H) → H.ram_size start ≡ H.ram_size standing.now.hart
+        → result ≡ model.own_fault H.machine start item.now standing.now.load standing.now.power }
 {
     match item {
         Record::End { step, cause } => end_fault(*step, *cause, standing.load, standing.power),
@@ -90,7 +91,8 @@ fn own_fault<H: Hart>(standing: &Standing<H>, item: &Record) -> Option<Diverged>
 
 /// The fault of a record once the steps below its number are done, as far as they can be.
 pub fn fault<H: Hart>(standing: &Standing<H>, item: &Record) -> Option<Diverged>
-    ensures { (start : H) → H.ram_size start ≡ H.ram_size standing.now.hart → result ≡ held_fault H.machine start item.now (held_of H.done standing.now) }
+    ensures { (start : H) → H.ram_size start ≡ H.ram_size standing.now.hart
+        → result ≡ held_fault H.machine start item.now (held_of H.done standing.now) }
 {
     match halted(standing.hart.steps(), standing.power, wait(standing), item) {
         Some(fault) => Some(fault),

@@ -15,15 +15,12 @@ pub struct Replay<H> {
 }
 
 impl<H: Hart> Replay<H> {
-    ghost use Rattle.std.specs.Prelude.{◌≡◌, ◌*◌, ◌++◌, [], ◌∷◌, List, None, IsTrue, is_some};
-    ghost use Rattle.run_events.specs.declared.event.Event.{Event as Shown};
+    ghost use Rattle.std.specs.Prelude.{◌≡◌, ◌*◌, [], List, IsTrue, is_some};
     ghost use Rattle.run_events.specs.declared.record.Record.{Record as Item};
     ghost use Rattle.run_events.specs.Record.{IsRecord};
-    ghost use Rattle.run_events.specs.Sequence.{InOrder};
-    ghost use Rattle.any_machine.specs.Replay.{outcome, shown_by};
-    ghost use Rattle.any_machine.specs.Held.{held_take, take_shown};
-    ghost use Rattle.any_replay.specs.Standing.{held_of};
-    ghost use Rattle.any_replay.specs.Replays.{Replays, Judges, answer_of, takes_after, state_in};
+    ghost use Rattle.any_machine.specs.Replay.{outcome};
+    ghost use Rattle.any_replay.specs.Replays.{Replays, KeepsReplaying, KeepsShowing, state_in};
+    ghost use Rattle.any_replay.specs.Taking.{JudgesAll, ShowsAll, answer_of, takes_after};
 
     /// A replay that was fed nothing, of a hart that has done no step.
     pub fn new(hart: H) -> Replay<H>
@@ -48,8 +45,9 @@ impl<H: Hart> Replay<H> {
     fn judge<W: Watcher>(&mut self, item: &Record, seen: &mut W) -> Option<Diverged>
         requires item { IsRecord item.now }
         requires size { H.ram_size self.old.standing.hart ≡ 1024 * W.ram_kib seen.old }
-        ensures judges { (start : H) (before : List Item) → InOrder before self.old.order → H.ram_size start ≡ H.ram_size self.old.standing.hart → Judges H.machine H.done start before item.now self.old self.new result }
-        ensures shown { (start : H) (before : List Item) (h : List Shown) → InOrder before self.old.order → H.ram_size start ≡ H.ram_size self.old.standing.hart → W.has_seen seen.old h → W.has_seen seen.new (h ++ take_shown H.machine start before item.now (held_of H.done self.old.standing)) }
+        ensures judges { JudgesAll H.machine H.done H.ram_size item.now self.old self.new result }
+        ensures shown { ShowsAll H.machine H.done H.ram_size item.now self.old
+            (W.has_seen seen.old) (W.has_seen seen.new) }
         ensures ram { H.ram_size self.new.standing.hart ≡ H.ram_size self.old.standing.hart }
         ensures diverged { self.new.diverged ≡ self.old.diverged }
         ensures takes { self.new.takes ≡ self.old.takes }
@@ -81,8 +79,9 @@ impl<H: Hart> Replay<H> {
         requires item { IsRecord item.now }
         requires size { H.ram_size self.old.standing.hart ≡ 1024 * W.ram_kib seen.old }
         ensures answer { result ≡ answer_of self.new.diverged }
-        ensures replays { (start : H) (before : List Item) → Replays H.machine H.done H.ram_size start before self.old → Replays H.machine H.done H.ram_size start (item.now ∷ before) self.new }
-        ensures shown { (start : H) (before : List Item) (h : List Shown) → Replays H.machine H.done H.ram_size start before self.old → W.has_seen seen.old (h ++ shown_by H.machine start (outcome H.machine start before)) → W.has_seen seen.new (h ++ shown_by H.machine start (outcome H.machine start (item.now ∷ before))) }
+        ensures replays { KeepsReplaying H.machine H.done H.ram_size item.now self.old self.new }
+        ensures shown { KeepsShowing H.machine H.done H.ram_size item.now self.old
+            (W.has_seen seen.old) (W.has_seen seen.new) }
         ensures diverged { IsTrue (is_some self.old.diverged) → self.new ≡ self.old }
         ensures still { IsTrue (is_some self.old.diverged) → seen.new ≡ seen.old }
         ensures takes { self.new.takes ≡ takes_after self.old.takes self.new.diverged }
@@ -104,7 +103,9 @@ impl<H: Hart> Replay<H> {
     /// The number of steps done.
     pub fn reach(&self) -> u32
         ensures done { result ≡ H.done self.now.standing.hart }
-        ensures executed { (start : H) (items : List Item) → Replays H.machine H.done H.ram_size start items self.now → result ≡ (outcome H.machine start items).done }
+        ensures executed { (start : H) (items : List Item)
+            → Replays H.machine H.done H.ram_size start items self.now
+            → result ≡ (outcome H.machine start items).done }
     {
         self.standing.hart.steps()
     }
@@ -112,7 +113,9 @@ impl<H: Hart> Replay<H> {
     /// The hart.
     pub fn hart(&self) -> &H
         ensures hart { result.now ≡ self.now.standing.hart }
-        ensures state { (start : H) (items : List Item) → Replays H.machine H.done H.ram_size start items self.now → result.now ≡ state_in H.machine start (outcome H.machine start items) }
+        ensures state { (start : H) (items : List Item)
+            → Replays H.machine H.done H.ram_size start items self.now
+            → result.now ≡ state_in H.machine start (outcome H.machine start items) }
     {
         &self.standing.hart
     }

@@ -1,10 +1,9 @@
 //! A hart with what it was fed for the step to come.
-ghost use Rattle.std.specs.Prelude.{◌≡◌, ◌<◌, ◌*◌, ◌++◌, List, IsTrue, false, not, is_some, ℕ};
-ghost use Rattle.run_events.specs.declared.event.Event.{Event as Shown};
+ghost use Rattle.std.specs.Prelude.{◌≡◌, ◌<◌, ◌*◌, ℕ, IsTrue, false, not, is_some};
 ghost use Rattle.run_events.specs.Event.{Fits};
 ghost use Rattle.any_machine.specs.Replay.{load_fault};
 ghost use Rattle.any_machine.specs.Held.{wait_fault, held_event, held_next, held_with, word_shown};
-ghost use Rattle.any_replay.specs.Standing.{held_of, IsWordHeld};
+ghost use Rattle.any_replay.specs.Standing.{held_of, IsWordHeld, SeesMore};
 
 use any_machine::Hart;
 use memory_map::POWER;
@@ -46,7 +45,8 @@ fn do_step<H: Hart>(hart: &mut H, lines: u8, load: Option<Supplied>, event: &mut
     ensures stays { result ≡ false → hart.new ≡ hart.old }
     ensures does { IsTrue result → H.machine.step hart.old lines load ≡ (event.new, hart.new) }
     ensures size { H.ram_size hart.new ≡ H.ram_size hart.old }
-    ensures fits { (ram_kib : ℕ) → IsTrue result → H.ram_size hart.old ≡ 1024 * ram_kib → Fits ram_kib event.new }
+    ensures fits { (ram_kib : ℕ) → IsTrue result → H.ram_size hart.old ≡ 1024 * ram_kib
+        → Fits ram_kib event.new }
 {
     if load.is_none() && hart.try_step(lines, event) {
         return true;
@@ -61,12 +61,16 @@ fn do_step<H: Hart>(hart: &mut H, lines: u8, load: Option<Supplied>, event: &mut
 /// Does the step to come, where it has the value that it needs and no other, and leaves what it shows in `event`.
 pub fn step<H: Hart>(standing: &mut Standing<H>, event: &mut Event) -> bool
     requires { H.done standing.old.hart < 1000000000 }
-    ensures answer { result ≡ not (is_some (wait_fault H.machine (held_of H.done standing.old))) }
+    ensures answer { result
+        ≡ not (is_some (wait_fault H.machine (held_of H.done standing.old))) }
     ensures stays { result ≡ false → standing.new ≡ standing.old }
-    ensures does { IsTrue result → held_of H.done standing.new ≡ held_next H.machine (held_of H.done standing.old) }
-    ensures shows { IsTrue result → event.new ≡ held_event H.machine (held_of H.done standing.old) }
+    ensures does { IsTrue result
+        → held_of H.done standing.new ≡ held_next H.machine (held_of H.done standing.old) }
+    ensures shows { IsTrue result
+        → event.new ≡ held_event H.machine (held_of H.done standing.old) }
     ensures size { H.ram_size standing.new.hart ≡ H.ram_size standing.old.hart }
-    ensures fits { (ram_kib : ℕ) → IsTrue result → H.ram_size standing.old.hart ≡ 1024 * ram_kib → Fits ram_kib event.new }
+    ensures fits { (ram_kib : ℕ) → IsTrue result → H.ram_size standing.old.hart ≡ 1024 * ram_kib
+        → Fits ram_kib event.new }
 {
     if !do_step(&mut standing.hart, standing.lines, standing.load, event) {
         return false;
@@ -81,8 +85,10 @@ pub fn step<H: Hart>(standing: &mut Standing<H>, event: &mut Event) -> bool
 pub fn apply<H: Hart, W: Watcher>(standing: &mut Standing<H>, item: &Record, seen: &mut W)
     requires held { IsWordHeld H.machine standing.old.hart item.now }
     requires size { H.ram_size standing.old.hart ≡ 1024 * W.ram_kib seen.old }
-    ensures held { held_of H.done standing.new ≡ held_with H.machine item.now (held_of H.done standing.old) }
-    ensures shown { (h : List Shown) → W.has_seen seen.old h → W.has_seen seen.new (h ++ word_shown H.machine item.now (held_of H.done standing.old)) }
+    ensures held { held_of H.done standing.new
+        ≡ held_with H.machine item.now (held_of H.done standing.old) }
+    ensures shown { SeesMore (W.has_seen seen.old) (W.has_seen seen.new)
+        (word_shown H.machine item.now (held_of H.done standing.old)) }
     ensures ram { H.ram_size standing.new.hart ≡ H.ram_size standing.old.hart }
     ensures size { W.ram_kib seen.new ≡ W.ram_kib seen.old }
     ensures made { W.make seen.new ≡ W.make seen.old }

@@ -22,7 +22,7 @@ pub returns-in-Some-judge-clause-shown : goal.returns-in-Some-judge-clause-shown
 returns-in-Some-judge-clause-shown g c =
     λ start before h was seen.
     judged_shown g.H.Hart.machine g.H.Hart.done g.H.Hart.ram_size start before c.args.item.now c.args.self.now h (g.W.Watcher.has_seen c.judge.new.seen) was c.in_default.is
-    (c.judge.ensures.shown start before _ (was.order c.in_default.is) was.ram seen)
+    (c.judge.ensures.shown start before (was.order c.in_default.is) was.ram _ seen)
 
 -- it is accepted
 pub returns-clause-replays : goal.returns-clause-replays
@@ -35,4 +35,4 @@ pub returns-clause-shown : goal.returns-clause-shown
 returns-clause-shown g c =
     λ start before h was seen.
     judged_shown g.H.Hart.machine g.H.Hart.done g.H.Hart.ram_size start before c.args.item.now c.args.self.now h (g.W.Watcher.has_seen c.judge.new.seen) was c.in_default.is
-    (c.judge.ensures.shown start before _ (was.order c.in_default.is) was.ram seen)
+    (c.judge.ensures.shown start before (was.order c.in_default.is) was.ram _ seen)
