@@ -1,5 +1,5 @@
 -- Which records there are, and in which order they may stand.
-use Rattle.std.specs.Prelude.{ℕ, ◌+◌, ◌≤◌, Bool, true, false, not, ◌&&◌, ◌||◌, ◌==◌, nat_lt, List, [], ◌∷◌, reverse, Option, None, Some, if◌then◌else◌}
+use Rattle.std.specs.Prelude.{◌≡◌, ℕ, ◌+◌, ◌≤◌, Bool, true, false, not, ◌&&◌, ◌||◌, ◌==◌, nat_lt, List, [], ◌∷◌, reverse, Option, None, Some, if◌then◌else◌}
 use Rattle.run_events.specs.declared.record.Record.{Record}
 use Rattle.run_events.specs.declared.record.Record.TheVariants.{Load, Lines, Dma, Reach, End}
 
@@ -87,3 +87,14 @@ reach_back (last ∷ before) = number last
 -- and of a list in order
 abbrev pub reach : List Record → ℕ
 reach items = reach_back (reverse items)
+
+-- whether a record may follow the last one, of which so many words of the disk have the number
+abbrev pub TellsFollow : Record → ℕ → Record → Bool → Type 0
+TellsFollow last words item told =
+    (before : List Record) → words ≡ newest_dmas (last ∷ before) → told ≡ is_admitted (last ∷ before) item
+
+-- how many words of the disk have the number of a record that is admitted after the last one, with it
+abbrev pub CountsDmas : Option Record → ℕ → Record → ℕ → Type 0
+CountsDmas last words item count =
+    (before : List Record) → is_ordered_back before ≡ true → last ≡ newest before → words ≡ newest_dmas before → is_admitted before item ≡ true
+    → count ≡ newest_dmas (item ∷ before)

@@ -1,6 +1,5 @@
 //! The order of records.
-ghost use Rattle.std.specs.Prelude.{◌≡◌, true, List, ◌∷◌};
-ghost use Rattle.run_events.specs.declared.record.Record.{Record as Item};
+ghost use Rattle.std.specs.Prelude.{◌≡◌};
 ghost use Rattle.run_events.specs.Record as order;
 
 use crate::Record;
@@ -11,7 +10,7 @@ const MOST_WORDS: u32 = 128;
 
 // Whether a record may stand after the last one. Where that is a word of the disk, `words` have its number.
 fn may_follow(last: &Record, words: u32, r: &Record) -> bool
-    ensures { (before : List Item) → words ≡ order.newest_dmas (last.now ∷ before) → result ≡ order.is_admitted (last.now ∷ before) r.now }
+    ensures { order.TellsFollow last.now words r.now result }
 {
     let more_words = rank(last) == 1 && rank(r) == 1 && words < MOST_WORDS;
     let rises = rank(last) < rank(r) || more_words;
@@ -30,7 +29,7 @@ fn is_next_dma(last: Option<Record>, r: &Record) -> bool
 
 // How many words of the disk have the number of a record that may stand after the last one, with it.
 fn words_with(last: Option<Record>, words: u32, r: &Record) -> u32
-    ensures { (before : List Item) → order.is_ordered_back before ≡ true → last ≡ order.newest before → words ≡ order.newest_dmas before → order.is_admitted before r.now ≡ true → result ≡ order.newest_dmas (r.now ∷ before) }
+    ensures { order.CountsDmas last words r.now result }
 {
     if is_next_dma(last, r) {
         words.saturating_add(1)
@@ -50,7 +49,8 @@ pub struct Sequence {
 }
 
 impl Sequence {
-    ghost use Rattle.std.specs.Prelude.{[], false};
+    ghost use Rattle.std.specs.Prelude.{[], true, false, List, ◌∷◌};
+    ghost use Rattle.run_events.specs.declared.record.Record.{Record as Item};
     ghost use Rattle.run_events.specs.Sequence.{InOrder};
 
     /// A sequence of no records.
@@ -67,8 +67,10 @@ impl Sequence {
     /// among records of one number the order is Reach, Dma, Lines, Load, End, each once, but for up to 128 Dma. A record
     /// that is not admitted changes nothing.
     pub fn admit(&mut self, r: &Record) -> bool
-        ensures answer { (before : List Item) → InOrder before self.old → result ≡ order.is_admitted before r.now }
-        ensures admitted { (before : List Item) → InOrder before self.old → result ≡ true → InOrder (r.now ∷ before) self.new }
+        ensures answer { (before : List Item) → InOrder before self.old
+            → result ≡ order.is_admitted before r.now }
+        ensures admitted { (before : List Item) → InOrder before self.old → result ≡ true
+            → InOrder (r.now ∷ before) self.new }
         ensures refused { result ≡ false → self.new ≡ self.old }
     {
         let admitted = match &self.last {

@@ -1,0 +1,37 @@
+//! The steps below a number, done and shown.
+ghost use Rattle.std.specs.Prelude.{◌≡◌, ◌-◌, ◌*◌, ◌≤◌};
+ghost use Rattle.any_machine.specs.Held.{run_held, run_shown};
+ghost use Rattle.any_replay.specs.Standing.{held_of, SeesMore};
+
+use crate::standing::{Standing, step};
+use any_machine::Hart;
+use run_events::{Event, Watcher};
+
+// What stands where no step was done yet.
+const NOTHING: Event = Event::Irq {
+    step: 0,
+    pc: 0,
+    cause: 0,
+    next: 0,
+};
+
+/// Does the steps below a number and shows each, up to one that cannot be done or a power store.
+pub fn run_to<H: Hart, W: Watcher>(standing: &mut Standing<H>, number: u32, seen: &mut W)
+    requires number { number ≤ 1000000000 }
+    requires size { H.ram_size standing.old.hart ≡ 1024 * W.ram_kib seen.old }
+    ensures held { held_of H.done standing.new
+        ≡ run_held H.machine (number - H.done standing.old.hart) (held_of H.done standing.old) }
+    ensures shown { SeesMore (W.has_seen seen.old) (W.has_seen seen.new)
+        (run_shown H.machine (number - H.done standing.old.hart) (held_of H.done standing.old)) }
+    ensures ram { H.ram_size standing.new.hart ≡ H.ram_size standing.old.hart }
+    ensures size { W.ram_kib seen.new ≡ W.ram_kib seen.old }
+    ensures made { W.make seen.new ≡ W.make seen.old }
+{
+    let mut event = NOTHING;
+    'turns: while standing.power.is_none() && standing.hart.steps() < number {
+        if !step(standing, &mut event) {
+            return;
+        }
+        seen.see(&event);
+    }
+}
