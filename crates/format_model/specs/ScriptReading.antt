@@ -1,11 +1,11 @@
 -- Reading a script from left to right, with the first fault that is met.
-use Rattle.std.specs.Prelude.{ℕ, ◌+◌, ◌-◌, ◌*◌, ◌==◌, Bool, true, false, not, ◌&&◌, ◌||◌, nat_lt, nat_le, if◌then◌else◌, List, [], ◌∷◌, ◌++◌, length, slice_index, codes, Option, Some, None, is_none, option_map, ok_or, Result, Ok, Err}
+use Rattle.std.specs.Prelude.{ℕ, ◌+◌, ◌-◌, ◌*◌, ◌==◌, Bool, true, ◌&&◌, ◌||◌, nat_lt, nat_le, if◌then◌else◌, List, [], ◌∷◌, ◌++◌, length, slice_index, codes, Option, Some, None, is_none, option_map, ok_or, Result, Ok, Err}
 use Rattle.std.specs.Option.{option_map_or}
 use Rattle.std.specs.Char.{is_ascii_digit}
 use Rattle.std.specs.List.{list_all}
 use Rattle.machine_model.specs.Script.{Span, Entry, Script, What}
 use Rattle.machine_model.specs.Script as model
-use Rattle.format_model.specs.Script.{Line, Blank, Clock, Sectors, At, most_steps, most_sectors, last_step, texts_of, period_of}
+use Rattle.format_model.specs.Script.{Line, Blank, Clock, Sectors, At, most_steps, most_sectors, last_step, texts_of}
 
 -- what may be wrong with a line, in the order in which it is told
 pub data Broken : Type 0 where
@@ -62,15 +62,21 @@ number_at least most text = if is_number text then number_in least most text els
 unfoldable pub hex_value : ℕ → Result ℕ Broken
 hex_value c = if nat_le 48 c && nat_le c 57 then Ok (c - 48) else if nat_le 97 c && nat_le c 102 then Ok (c - 87) else Err BadLine
 
--- the bytes of pairs of such digits
+-- the byte of a pair of such digits
+unfoldable pub pair_at : ℕ → ℕ → Result ℕ Broken
+pair_at high low = do
+  h ← hex_value high
+  l ← hex_value low
+  Ok (16 * h + l)
+
+-- the bytes of pairs
 unfoldable pub pairs_at : List ℕ → Result (List ℕ) Broken
 pairs_at [] = Ok []
 pairs_at (high ∷ []) = Err BadLine
 pairs_at (high ∷ low ∷ rest) = do
-  h ← hex_value high
-  l ← hex_value low
+  byte ← pair_at high low
   bytes ← pairs_at rest
-  Ok ((16 * h + l) ∷ bytes)
+  Ok (byte ∷ bytes)
 
 -- one pair or more
 unfoldable pub hex_at : List ℕ → Result (List ℕ) Broken
@@ -131,8 +137,8 @@ unfoldable pub sectors_at : Bool → ℕ → List ℕ → Result Line Broken
 sectors_at may_stand count text = do
   words ← at_space text
   if may_stand && (is_number words.0 && is_number words.1)
-    then (span_in words.0 words.1 >>= λ span. if nat_lt count 256 then Ok (Sectors span) else Err TooMany)
-    else Err BadLine
+      then (span_in words.0 words.1 >>= λ span. if nat_lt count 256 then Ok (Sectors span) else Err TooMany)
+      else Err BadLine
 
 -- an entry after this many others, of which the last is at this step
 unfoldable pub entry_in : ℕ → ℕ → ℕ → What → Result Line Broken
@@ -142,8 +148,8 @@ unfoldable pub entry_at : ℕ → ℕ → List ℕ → Result Line Broken
 entry_at last count text = do
   words ← at_space text
   if is_number words.0
-    then (what_at words.1 >>= λ arriving. number_in 0 most_steps words.0 >>= λ step. entry_in last count step arriving)
-    else Err BadLine
+      then (what_at words.1 >>= λ arriving. number_in 0 most_steps words.0 >>= λ step. entry_in last count step arriving)
+      else Err BadLine
 
 abbrev pub is_blank : List ℕ → Bool
 is_blank [] = true

@@ -1,8 +1,17 @@
-//! Scripts: what a script file says, and the canonical text of a script.
+//! Scripts: reading a script file, and the canonical text of a script.
 #![tactic(auto)]
 
 mod bytes;
+mod draft;
+mod fault;
+mod hex;
+mod line;
+mod number;
+mod reading;
 mod script;
+mod text;
 
 pub use bytes::Bytes;
+pub use fault::ScriptFault;
+pub use reading::parse;
 pub use script::{Entry, Script, Span, What};
