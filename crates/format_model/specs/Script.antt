@@ -36,9 +36,11 @@ abbrev pub hex_digit : ℕ → ℕ
 hex_digit n = if nat_lt n 10 then 48 + n else 87 + n
 
 -- two of them a byte, the high one first
+abbrev pub hex_pair : ℕ → List ℕ
+hex_pair b = hex_digit (b / 16) ∷ hex_digit (b % 16) ∷ []
+
 abbrev pub hex : List ℕ → List ℕ
-hex [] = []
-hex (b ∷ bs) = hex_digit (b / 16) ∷ hex_digit (b % 16) ∷ hex bs
+hex bytes = flat_map hex_pair bytes
 
 -- bytes are spelled by their word, which tells the mark, and in hexadecimal
 abbrev pub what_text : model.What → List ℕ
@@ -130,11 +132,14 @@ abbrev pub IsScript : List ℕ → Script → Type 0
 IsScript file script = (lines : List Line) × SpellEach lines (texts_of file) × StandAfter [] lines × (script ≡ script_of lines)
 
 -- The canonical text: the clock always, then the sectors, then the entries, each line with its line feed.
+abbrev pub clock_line : ℕ → List ℕ
+clock_line period = codes "clock " ++ (decimal period ++ 10 ∷ [])
+
 abbrev pub span_line : Span → List ℕ
-span_line span = codes "sectors " ++ (decimal span.first ++ 32 ∷ decimal span.last) ++ 10 ∷ []
+span_line span = codes "sectors " ++ (decimal span.first ++ 32 ∷ (decimal span.last ++ 10 ∷ []))
 
 abbrev pub entry_line : Entry → List ℕ
-entry_line entry = codes "at " ++ (decimal entry.at ++ 32 ∷ what_text entry.what) ++ 10 ∷ []
+entry_line entry = codes "at " ++ (decimal entry.at ++ 32 ∷ (what_text entry.what ++ 10 ∷ []))
 
 unfoldable pub printed : Script → List ℕ
-printed script = (codes "clock " ++ decimal script.clock ++ 10 ∷ []) ++ (flat_map span_line script.sectors ++ flat_map entry_line script.entries)
+printed script = clock_line script.clock ++ flat_map span_line script.sectors ++ flat_map entry_line script.entries

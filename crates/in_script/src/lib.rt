@@ -10,8 +10,10 @@ mod number;
 mod reading;
 mod script;
 mod text;
+mod writing;
 
 pub use bytes::Bytes;
 pub use fault::ScriptFault;
 pub use reading::parse;
 pub use script::{Entry, Script, Span, What};
+pub use writing::print;
