@@ -1,1 +1,3 @@
 pub mod ScriptSteps
+pub mod ScriptParts
+pub mod ScriptLines

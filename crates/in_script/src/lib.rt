@@ -17,3 +17,6 @@ pub use fault::ScriptFault;
 pub use reading::parse;
 pub use script::{Entry, Script, Span, What};
 pub use writing::print;
+
+#[cfg(test)]
+mod tests;
