@@ -1,3 +1,4 @@
 pub mod ScriptSteps
 pub mod ScriptParts
 pub mod ScriptLines
+pub mod ScriptPrinted

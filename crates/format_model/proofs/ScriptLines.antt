@@ -1,5 +1,5 @@
 -- The lines of a script: what is spelled, and stands where it may, is read again; and what is read is spelled so.
-use Rattle.std.proofs.Common.{◌≡◌, ℕ, zero, suc, ◌+◌, ◌^◌, ◌<◌, ◌≤◌, ◌⊎◌, Bool, true, false, ◌&&◌, cond, eqb, ltb, List, [], ◌∷◌, ◌++◌, length, Option, Some, None, Result, Ok, Err, refl, sym, ap, subst, ◌∙◌, append_assoc, arith, inl, inr, decimal}
+use Rattle.std.proofs.Common.{◌≡◌, ℕ, zero, suc, ◌+◌, ◌<◌, ◌≤◌, Bool, true, false, ◌&&◌, cond, eqb, ltb, List, [], ◌∷◌, ◌++◌, length, Option, Some, None, Result, Ok, Err, refl, sym, ap, subst, ◌∙◌, append_assoc, arith, inl, inr, decimal}
 use Rattle.std.specs.Prelude.{codes, is_none, ok_or}
 use Rattle.std.specs.Option.{option_map_or}
 use Rattle.std.specs.List.{AllByRecursion}
@@ -7,8 +7,8 @@ use Rattle.std.proofs.lemmas.Bool.{lt-ltb, le-ltb, ltb-true, ltb-false, eqb-true
 use Rattle.std.proofs.lemmas.List.{append-nil, nil_from_length}
 use Rattle.machine_model.specs.Script.{Span, Entry, What, Serial, Tick, Latency, Script}
 use Rattle.format_model.specs.Script.{Line, Blank, Clock, Sectors, At, most_steps, most_sectors, IsWhat, IsLine, what_text, SpellsWhat, Spells, clocks, spans, entries, last_step, MayStand, StandAfter, SpellEach, period_of, script_of, longer, texts_of, IsScript, hex}
-use Rattle.format_model.specs.ScriptReading.{◌>>=◌, Broken, BadLine, BadNumber, Falling, TooMany, strip, cut, at_space, is_number, number_in, number_at, hex_at, serial_at, tick_at, latency_at, what_at, SoFar, nothing, with_line, clock_at, span_in, sectors_at, entry_in, entry_at, is_blank, line_at, at_line, lines_at, finished, script_in}
-use Rattle.format_model.proofs.ScriptParts.{bind_ok, ok_is, chosen_ok, passed_ok, either_of, taken, strip_found, cut_again, cut_found, decimal_digits, decimal_number, in_again, in_found, number_again, number_found, IsNumber, AreBytes, hex_again, hex_found}
+use Rattle.format_model.specs.ScriptReading.{◌>>=◌, Broken, BadLine, Falling, TooMany, strip, cut, at_space, is_number, number_in, number_at, hex_at, serial_at, tick_at, latency_at, what_at, SoFar, nothing, with_line, clock_at, span_in, sectors_at, entry_in, entry_at, is_blank, line_at, at_line, lines_at, finished, script_in}
+use Rattle.format_model.proofs.ScriptParts.{bind_ok, ok_is, chosen_ok, passed_ok, either_of, taken, strip_found, cut_again, cut_found, decimal_digits, decimal_number, in_again, in_found, number_again, number_found, AreBytes, hex_again, hex_found}
 
 -- ---- what arrives
 
@@ -82,7 +82,7 @@ what_found text what fits e =
         | inl t ↦ serial_found (codes "marked ") t.0 text 1 what (omega arith) (strip_found (codes "marked ") text t.0 t.1) (λ bytes. refl) t.2
         | inr e2 ↦ elim (taken (λ (rest : List ℕ). Ok (Serial (rest ++ 10 ∷ []) 0)) (strip (codes "line ") text) at_tick what e2) [
           | inl t ↦ let is_text = strip_found (codes "line ") text t.0 t.1 in
-            text_found t.0 text what (bytes_after (codes "line ") t.0 (subst AreBytes is_text fits)) is_text t.2
+              text_found t.0 text what (bytes_after (codes "line ") t.0 (subst AreBytes is_text fits)) is_text t.2
           | inr e3 ↦ elim (taken tick_at (strip (codes "tick ") text) at_latency what e3) [
             | inl t ↦ tick_found t.0 text what (strip_found (codes "tick ") text t.0 t.1) t.2
             | inr e4 ↦ elim (taken latency_at (strip (codes "latency ") text) (Err BadLine) what e4) [
@@ -110,14 +110,14 @@ clocks_more (Clock period ∷ before) line = ap (λ (x : List ℕ). period ∷ x
 clocks_more (Sectors span ∷ before) line = clocks_more before line
 clocks_more (At entry ∷ before) line = clocks_more before line
 
-spans_more : (before : List Line) (line : Line) → spans (before ++ line ∷ []) ≡ spans before ++ spans (line ∷ [])
+pub spans_more : (before : List Line) (line : Line) → spans (before ++ line ∷ []) ≡ spans before ++ spans (line ∷ [])
 spans_more [] line = refl
 spans_more (Blank ∷ before) line = spans_more before line
 spans_more (Clock period ∷ before) line = spans_more before line
 spans_more (Sectors span ∷ before) line = ap (λ (x : List Span). span ∷ x) (spans_more before line)
 spans_more (At entry ∷ before) line = spans_more before line
 
-entries_more : (before : List Line) (line : Line) → entries (before ++ line ∷ []) ≡ entries before ++ entries (line ∷ [])
+pub entries_more : (before : List Line) (line : Line) → entries (before ++ line ∷ []) ≡ entries before ++ entries (line ∷ [])
 entries_more [] line = refl
 entries_more (Blank ∷ before) line = entries_more before line
 entries_more (Clock period ∷ before) line = entries_more before line
@@ -263,7 +263,7 @@ line_found before text line fits e =
           | inl u ↦ sectors_found before text u.0 line (strip_found (codes "sectors ") text u.0 u.1) u.2
           | inr e2 ↦ elim (taken (entry_at (last_step (entries before)) count) (strip (codes "at ") text) (Err BadLine) line e2) [
             | inl u ↦ let is_text = strip_found (codes "at ") text u.0 u.1 in
-              entry_found before text u.0 line (bytes_after (codes "at ") u.0 (subst AreBytes is_text fits)) is_text u.2
+                entry_found before text u.0 line (bytes_after (codes "at ") u.0 (subst AreBytes is_text fits)) is_text u.2
             | inr e3 ↦ absurd (let no : ◌≡◌ {A = Result Line Broken} (Err BadLine) (Ok line) = e3 in cc)
           ]
         ]

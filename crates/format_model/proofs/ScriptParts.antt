@@ -4,7 +4,7 @@ use Rattle.std.specs.Prelude.{option_map}
 use Rattle.std.specs.Option.{option_map_or}
 use Rattle.std.specs.Char.{is_ascii_digit}
 use Rattle.std.specs.List.{list_all, AllByRecursion}
-use Rattle.std.proofs.lemmas.Bool.{cases_lt, cases_Bool, lt-ltb, le-ltb, le-leb, lt-leb, ltb-true, ltb-false, leb-true, leb-false, eqb-true, eqb-false, ne_eqb, and_parts, and_cases, and_from, and_right, or_parts}
+use Rattle.std.proofs.lemmas.Bool.{cases_lt, lt-ltb, le-ltb, le-leb, lt-leb, ltb-true, ltb-false, leb-true, eqb-true, eqb-false, ne_eqb, and_parts, and_cases, and_from, and_right, or_parts}
 use Rattle.std.proofs.lemmas.Fmt.{digits_decimal, digits_value-decimal, decimal_nonempty, decimal_digit, first_decimal, decimal-digits_value}
 use Rattle.std.proofs.lemmas.Str.Parse.{IsNumeralModel, numerals_by_fold}
 use Rattle.format_model.specs.Script.{hex_digit, hex_pair, hex}
@@ -72,10 +72,10 @@ cut_found c [] p e = absurd cc
 cut_found c (b ∷ bs) p e =
     elim (either_of (eqb b c) (Some ([], bs)) (option_map (λ (q : List ℕ × List ℕ). (b ∷ q.0, q.1)) (cut c bs)) (Some p) e) [
       | inl t ↦ let same : b ≡ c = eqb-true b c t.0 in
-        let is_p : ([], bs) ≡ p = cc in
-        subst (λ (q : List ℕ × List ℕ). b ∷ bs ≡ q.0 ++ c ∷ q.1) is_p (rw same refl)
+          let is_p : ([], bs) ≡ p = cc in
+          subst (λ (q : List ℕ × List ℕ). b ∷ bs ≡ q.0 ++ c ∷ q.1) is_p (rw same refl)
       | inr t ↦ let m = mapped (λ (q : List ℕ × List ℕ). (b ∷ q.0, q.1)) (cut c bs) p t.1 in
-        subst (λ (q : List ℕ × List ℕ). b ∷ bs ≡ q.0 ++ c ∷ q.1) m.2 (ap (λ (x : List ℕ). b ∷ x) (cut_found c bs m.0 m.1))
+          subst (λ (q : List ℕ × List ℕ). b ∷ bs ≡ q.0 ++ c ∷ q.1) m.2 (ap (λ (x : List ℕ). b ∷ x) (cut_found c bs m.0 m.1))
     ]
 
 -- ---- numbers
@@ -148,14 +148,19 @@ number_found least most n text small e =
 abbrev pub AreBytes : List ℕ → Type 0
 AreBytes bytes = AllByRecursion (λ b. b < 256) bytes
 
+-- bytes, by their places
+pub bytes_from : (bytes : List ℕ) → ((i : ℕ) → get_or bytes i 0 < 256) → AreBytes bytes
+bytes_from [] fits = tt
+bytes_from (b ∷ bytes) fits = (fits 0, bytes_from bytes (λ i. fits (suc i)))
+
 digit_again : (n : ℕ) → n < 16 → hex_value (hex_digit n) ≡ Ok n
 unfolding hex_value
 digit_again n small =
     elim (cases_lt n 10) [
       | inl lt ↦ let back : 48 + n - 48 ≡ n = omega arith in
-        rw (lt-ltb n 10 lt, le-leb 48 (48 + n) (omega arith), le-leb (48 + n) 57 (omega arith), back) refl
+          rw (lt-ltb n 10 lt, le-leb 48 (48 + n) (omega arith), le-leb (48 + n) 57 (omega arith), back) refl
       | inr le ↦ let back : 87 + n - 87 ≡ n = omega arith in
-        rw (le-ltb n 10 le, lt-leb (87 + n) 57 (omega arith), le-leb 48 (87 + n) (omega arith), le-leb 97 (87 + n) (omega arith), le-leb (87 + n) 102 (omega arith), back) refl
+          rw (le-ltb n 10 le, lt-leb (87 + n) 57 (omega arith), le-leb 48 (87 + n) (omega arith), le-leb 97 (87 + n) (omega arith), le-leb (87 + n) 102 (omega arith), back) refl
     ]
 
 low_digit : (c n : ℕ) → 48 ≤ c → c ≤ 57 → c - 48 ≡ n → (c ≡ hex_digit n) × (n < 16)
@@ -170,8 +175,8 @@ digit_found c n e =
     elim (either_of (leb 48 c && leb c 57) (Ok (c - 48)) (cond (leb 97 c && leb c 102) (Ok (c - 87)) (Err BadLine)) (Ok n) e) [
       | inl t ↦ let ends = and_parts (leb 48 c) (leb c 57) t.0 in low_digit c n (leb-true 48 c ends.0) (leb-true c 57 ends.1) (ok_is (c - 48) n t.1)
       | inr t ↦ let chosen = chosen_ok (leb 97 c && leb c 102) (Ok (c - 87)) BadLine n t.1 in
-        let ends = and_parts (leb 97 c) (leb c 102) chosen.0 in
-        high_digit c n (leb-true 97 c ends.0) (leb-true c 102 ends.1) (ok_is (c - 87) n chosen.1)
+          let ends = and_parts (leb 97 c) (leb c 102) chosen.0 in
+          high_digit c n (leb-true 97 c ends.0) (leb-true c 102 ends.1) (ok_is (c - 87) n chosen.1)
     ]
 
 pair_again : (b : ℕ) → b < 256 → pair_at (hex_digit (b / 16)) (hex_digit (b % 16)) ≡ Ok b

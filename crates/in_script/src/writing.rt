@@ -106,11 +106,8 @@ fn put_entries(out: &mut Vec<u8>, entries: &[Entry]) -> Result<(), NoMemory>
     Ok(())
 }
 
-/// The canonical text of a script that a file gives: the clock always, then the sectors, then the entries, each line with
-/// its line feed, and all bytes in hexadecimal.
 #[tactic(auto, unfolding(format_model::specs::Script::printed))]
-pub fn print(alloc: Global, script: &Script) -> Result<Vec<u8>, NoMemory>
-    requires { (file : List ℕ) × IsScript file script.now }
+fn printed(alloc: Global, script: &Script) -> Result<Vec<u8>, NoMemory>
     ensures { IfOk result (λ text. text.items ≡ printed script.now) }
 {
     let mut out = Vec::new(alloc);
@@ -118,4 +115,15 @@ pub fn print(alloc: Global, script: &Script) -> Result<Vec<u8>, NoMemory>
     put_spans(&mut out, &script.sectors)?;
     put_entries(&mut out, &script.entries)?;
     Ok(out)
+}
+
+/// The canonical text of a script that a file gives: the clock always, then the sectors, then the entries, each line with
+/// its line feed, and all bytes in hexadecimal. It is a file of the same script.
+pub fn print(alloc: Global, script: &Script) -> Result<Vec<u8>, NoMemory>
+    requires { (file : List ℕ) × IsScript file script.now }
+    ensures text { IfOk result (λ text. text.items ≡ printed script.now) }
+    // So `parse` of it gives the same script.
+    ensures again { IfOk result (λ text. IsScript text.items script.now) }
+{
+    printed(alloc, script)
 }

@@ -1,6 +1,5 @@
 use Rattle.std.proofs.Common.{◌≡◌, ◌++◌, take}
-use Rattle.std.specs.List.{flat_map}
-use Rattle.format_model.specs.Script.{hex, span_line, entry_line}
+use Rattle.format_model.specs.Script.{hex}
 use Rattle.in_script.proofs.writing.put_hex.Given as goal
 
 abbrev pub invariant-loop-byte : goal.invariant-loop-byte

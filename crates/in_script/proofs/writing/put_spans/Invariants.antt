@@ -1,6 +1,6 @@
 use Rattle.std.proofs.Common.{◌≡◌, ◌++◌, take}
 use Rattle.std.specs.List.{flat_map}
-use Rattle.format_model.specs.Script.{hex, span_line, entry_line}
+use Rattle.format_model.specs.Script.{span_line}
 use Rattle.in_script.proofs.writing.put_spans.Given as goal
 
 abbrev pub invariant-loop-span : goal.invariant-loop-span
