@@ -2,3 +2,4 @@ pub mod ScriptSteps
 pub mod ScriptParts
 pub mod ScriptLines
 pub mod ScriptPrinted
+pub mod ImageSteps

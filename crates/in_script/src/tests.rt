@@ -1,13 +1,29 @@
 //! Scripts, what is wrong with others, and their canonical text.
+ghost use Rattle.std.specs.Prelude.{IfOk};
+ghost use Rattle.format_model.specs.Script.{IsScript};
+
 use crate::{Script, ScriptFault, parse, print};
 use std::alloc::{AllocError, Global};
 use std::test::Fail;
 
-fn read(alloc: Global, text: &[u8]) -> Result<Script, ScriptFault> {
+fn read(alloc: Global, text: &[u8]) -> Result<Script, ScriptFault>
+    ensures { IfOk result (λ s. IsScript text.now s) }
+{
     if text.len() < 2_000_000 {
         parse(alloc, text)
     } else {
         Err(ScriptFault::NoMemory)
+    }
+}
+
+fn printed_of(alloc: Global, text: &[u8]) -> Result<Vec<u8>, ScriptFault> {
+    let script = match read(alloc, text) {
+        Ok(script) => script,
+        Err(fault) => return Err(fault),
+    };
+    match print(alloc, &script) {
+        Ok(printed) => Ok(printed),
+        Err(_) => Err(ScriptFault::NoMemory),
     }
 }
 
@@ -82,11 +98,8 @@ fn a_script_has_one_canonical_text(rt: HostRuntime) -> Result<(), Fail> {
         ),
     ];
     for (text, canonical) in cases {
-        match read(rt.alloc(), text.as_bytes()) {
-            Ok(script) => {
-                let printed = print(rt.alloc(), &script)?;
-                assert_eq!(rt; printed.as_slice(), canonical.as_bytes(), "of {text}");
-            }
+        match printed_of(rt.alloc(), text.as_bytes()) {
+            Ok(printed) => assert_eq!(rt; printed.as_slice(), canonical.as_bytes(), "of {text}"),
             Err(fault) => assert!(rt; false, "{fault:?} of {text}"),
         }
     }
