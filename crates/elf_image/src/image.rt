@@ -24,6 +24,20 @@ impl Model for Segment {
     ghost view = { λ s. record { address = s.address; bytes = s.bytes.items; size = s.size; executable = s.executable } };
 }
 
+impl Segment {
+    // An equal segment.
+    fn copy(&self, alloc: Global) -> Result<Segment, NoMemory>
+        ensures { IfOk result (λ segment. segment ≡ self.now) }
+    {
+        Ok(Segment {
+            address: self.address,
+            bytes: Vec::from_slice(alloc, &self.bytes)?,
+            size: self.size,
+            executable: self.executable,
+        })
+    }
+}
+
 /// What a guest's file gives: where it starts, and what stands in RAM before the first step.
 #[derive(Drop)]
 pub struct Image {
@@ -49,6 +63,20 @@ impl Image {
         for segment in &self.segments {
             ram.fill(segment.address, &segment.bytes);
         }
+    }
+
+    /// An equal image.
+    pub fn copy(&self, alloc: Global) -> Result<Image, NoMemory>
+        ensures { IfOk result (λ image. image ≡ self.now) }
+    {
+        let mut segments = Vec::with_capacity(alloc, self.segments.len())?;
+        for segment in &self.segments {
+            segments.push(segment.copy(alloc)?)?;
+        }
+        Ok(Image {
+            entry: self.entry,
+            segments,
+        })
     }
 }
 

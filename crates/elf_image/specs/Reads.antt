@@ -1,0 +1,22 @@
+-- What a reader answers, against what the definition of an image file gives.
+use Rattle.std.specs.Prelude.{◌≡◌, Result, Ok, Err}
+use Rattle.elf_image.specs.declared.fault.ImageFault.{ImageFault}
+use Rattle.elf_image.specs.declared.fault.ImageFault.TheVariants as fault
+use Rattle.format_model.specs.ImageFile as model
+
+-- a part that was refused is refused for this by the definition, unless there was no memory
+abbrev pub Refuses : {Y : Type 0} → ImageFault → Result Y model.Fault → Type 0
+Refuses (fault.Short need) read = read ≡ Err (model.Short need)
+Refuses (fault.NotThis field) read = read ≡ Err (model.NotThis field)
+Refuses fault.BadTable read = read ≡ Err model.BadTable
+Refuses (fault.SegmentShape index) read = read ≡ Err (model.SegmentShape index)
+Refuses (fault.SegmentOutside index) read = read ≡ Err (model.SegmentOutside index)
+Refuses (fault.Overlap first second) read = read ≡ Err (model.Overlap first second)
+Refuses fault.NoSegment read = read ≡ Err model.NoSegment
+Refuses fault.EntryOutside read = read ≡ Err model.EntryOutside
+Refuses fault.NoMemory read = Unit {0}
+
+-- a part was read as the definition says; view gives the value of what was returned
+abbrev pub Gives : {X Y : Type 0} → (X → Y) → Result X ImageFault → Result Y model.Fault → Type 0
+Gives view (Ok x) read = read ≡ Ok (view x)
+Gives view (Err e) read = Refuses e read

@@ -1,0 +1,5 @@
+pub mod ScriptSteps
+pub mod ScriptParts
+pub mod ScriptLines
+pub mod ScriptPrinted
+pub mod ImageSteps

@@ -1,0 +1,3 @@
+pub mod What
+pub mod Lines
+pub mod Reads
