@@ -1,1 +1,2 @@
+pub mod AnnouncementLaws
 pub mod RecordLaws

@@ -1,2 +1,4 @@
+pub mod Access
+pub mod Announcement
 pub mod Event
 pub mod Record

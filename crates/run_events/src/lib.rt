@@ -2,6 +2,7 @@
 #![tactic(auto)]
 
 mod access;
+mod announcement;
 mod event;
 mod finding;
 mod record;
@@ -10,6 +11,7 @@ mod supply;
 mod watcher;
 
 pub use access::{Access, Told};
+pub use announcement::Announcement;
 pub use event::Event;
 pub use finding::{Finding, FindingKind, Kind};
 pub use record::{EndCause, Record};
