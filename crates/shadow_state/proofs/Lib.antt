@@ -1,0 +1,2 @@
+pub mod PaintLaws
+mod FillLaws
