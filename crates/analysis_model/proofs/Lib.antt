@@ -1,3 +1,7 @@
+pub mod ContextLaws
 mod Examples
-pub mod MadeLaws
+pub mod FindingLaws
 pub mod FirstLaws
+pub mod LookLaws
+pub mod MadeLaws
+mod Rows

@@ -1,3 +1,5 @@
+pub mod LeastLaws
 pub mod OptionLaws
 pub mod PlaceLaws
 pub mod PrefixLaws
+pub mod ReverseLaws
