@@ -1,2 +1,3 @@
-pub mod PaintLaws
 mod FillLaws
+pub mod LeastLaws
+pub mod PaintLaws
