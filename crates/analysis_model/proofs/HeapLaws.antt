@@ -14,11 +14,8 @@ use Rattle.run_events.specs.declared.event.Event.TheVariants.{Dma, Irq, Trap, Ex
 use Rattle.run_events.specs.Announcement.{announced_by}
 use Rattle.run_events.specs.Event.{AccessFits, Fits}
 use Rattle.analysis_model.specs.Heap.{ByteUse, is_forbidden, is_live, touch_kind, bad_touch, touch, bad_free, free, heap_by}
+use Rattle.analysis_model.specs.InRam.{IsByteOf}
 use Rattle.analysis_model.specs.Look.{Complaint}
-
--- the byte at this address stands in a RAM of so many KiB
-abbrev pub IsByteOf : ℕ → ℕ → Type 0
-IsByteOf kib address = InRam (1024 * kib) address 1
 
 abbrev touched_as : ℕ → ByteUse → Complaint
 touched_as address is = record { kind = touch_kind is; address = address }
@@ -27,8 +24,8 @@ module _ (kib : ℕ) (f g : ℕ → ByteUse) (same : (address : ℕ) → IsByteO
   touch_same : (from len : ℕ) → InRam (1024 * kib) from len → option_map (bad_touch f) (least_from (λ a. is_forbidden (f a)) from len) ≡ option_map (bad_touch g) (least_from (λ a. is_forbidden (g a)) from len)
   touch_same from len within =
       least_made (bad_touch f) (bad_touch g) (λ a. is_forbidden (f a)) (λ a. is_forbidden (g a)) from len
-        (λ n low high. ap is_forbidden (same n (byte n low high)))
-        (λ n low high. ap (touched_as n) (same n (byte n low high)))
+      (λ n low high. ap is_forbidden (same n (byte n low high)))
+      (λ n low high. ap (touched_as n) (same n (byte n low high)))
     where
       byte : (n : ℕ) → from ≤ n → n < from + len → IsByteOf kib n
       byte n low high = record { from = omega (arith, within.from); to = omega (arith, within.to) }
@@ -46,7 +43,7 @@ module _ (kib : ℕ) (f g : ℕ → ByteUse) (same : (address : ℕ) → IsByteO
   free-same (Some (Allocate start size)) = refl
   free-same (Some (Free start size)) =
       ap (option_map bad_free) (least_same (λ a. not (is_live (f a))) (λ a. not (is_live (g a))) (max start RAM_START) (min (start + size) (RAM_START + 1024 * kib) - max start RAM_START)
-        (λ n low high. ap (λ u. not (is_live u)) (same n (record { from = omega arith; to = omega arith }))))
+      (λ n low high. ap (λ u. not (is_live u)) (same n (record { from = omega arith; to = omega arith }))))
   free-same (Some (Acquire lock)) = refl
   free-same (Some (Release lock)) = refl
   free-same (Some (Enter context)) = refl

@@ -6,3 +6,4 @@ pub mod HeapLaws
 pub mod LookLaws
 pub mod MadeLaws
 mod Rows
+pub mod TaintLaws

@@ -19,7 +19,7 @@ use Rattle.rv_decode.specs.declared.operations.CsrOp.TheVariants.{Csrrw, Csrrs, 
 use Rattle.rv_decode.specs.declared.operations.RegOp.{RegOp}
 use Rattle.rv_decode.specs.declared.operations.RegOp.TheVariants.{Xor, Sub}
 use Rattle.rv_decode.specs.Listing.{instruction}
-use Rattle.analysis_model.specs.InRam.{least_in_ram}
+use Rattle.analysis_model.specs.InRam.{least_in_ram, IsByteOf}
 use Rattle.analysis_model.specs.Look.{Complaint}
 
 -- what has a mark: a register, mscratch, or a byte of RAM
@@ -27,6 +27,12 @@ pub data Place : Type 0 where
   Register : ℕ → Place
   Scratch : Place
   Byte : ℕ → Place
+
+-- it is one of a machine with so many KiB of RAM
+abbrev pub IsPlace : ℕ → Place → Type 0
+IsPlace kib (Register n) = Unit {0}
+IsPlace kib Scratch = Unit {0}
+IsPlace kib (Byte address) = IsByteOf kib address
 
 -- where a new mark comes from: from outside, or from the marks of these places
 pub data Sources : Type 0 where

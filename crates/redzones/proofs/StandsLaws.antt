@@ -12,8 +12,9 @@ use Rattle.run_events.specs.Announcement.{announced}
 use Rattle.run_events.specs.Event.{Fits}
 use Rattle.analysis_model.specs.Complaints.{complaint, findings}
 use Rattle.analysis_model.specs.Heap.{Plain, use_made, use_after}
+use Rattle.analysis_model.specs.InRam.{IsByteOf}
 use Rattle.analysis_model.specs.Look.{finding_of, found_at}
-use Rattle.analysis_model.proofs.HeapLaws.{IsByteOf, heap_by-same}
+use Rattle.analysis_model.proofs.HeapLaws.{heap_by-same}
 use Rattle.analysis_model.proofs.LookLaws.{told_at-more}
 use Rattle.finding_tally.specs.Tallied.{Tallied, Tallies}
 use Rattle.finding_tally.proofs.TalliedLaws.{tallied_with-more}
