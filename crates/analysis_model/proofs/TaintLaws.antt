@@ -1,5 +1,5 @@
 -- What is made of marks goes by the marks of the machine's places alone.
-use Rattle.std.proofs.Common.{◌≡◌, nat_eq, ℕ, zero, suc, ◌+◌, ◌-◌, ◌*◌, ◌<◌, ◌≤◌, min, max, Bool, true, false, cond, List, [], ◌∷◌, ◌++◌, Option, None, Some, refl, ap, ◌∙◌, arith}
+use Rattle.std.proofs.Common.{◌≡◌, nat_eq, ℕ, zero, suc, ◌+◌, ◌-◌, ◌*◌, ◌<◌, ◌≤◌, min, max, Bool, true, false, cond, List, [], ◌∷◌, Option, None, Some, refl, ap, ◌∙◌, arith}
 use Rattle.std.specs.Prelude.{IfSome}
 use Rattle.std.specs.List.{AllByRecursion}
 use Rattle.std.specs.Option.{option_map, option_or}
@@ -25,7 +25,7 @@ use Rattle.rv_decode.specs.declared.operations.RegOp.{RegOp}
 use Rattle.rv_decode.specs.declared.operations.RegOp.TheVariants.{Xor, Sub}
 use Rattle.rv_decode.specs.Listing.{instruction}
 use Rattle.analysis_model.specs.InRam.{IsByteOf}
-use Rattle.analysis_model.specs.Taint.{Place, Register, Scratch, Byte, IsPlace, Sources, Given, From, unmarked, register, bytes_from, Writes, no_writes, operands, loaded, writes_bytes, old_bytes, atomic_writes, scratch_writes, csr_writes, writes_by, writes_as, writes_of, sources_in, is_marked, union, union_of, mark_of, mark_or, bad_jump, jump, leaked, most_checked, leak, taint_by}
+use Rattle.analysis_model.specs.Taint.{Place, Register, Scratch, Byte, IsPlace, Sources, Given, From, unmarked, register, bytes_from, Writes, no_writes, operands, loaded, writes_bytes, old_bytes, atomic_writes, scratch_writes, csr_writes, writes_by, writes_as, writes_of, sources_in, is_marked, union, union_of, mark_of, mark_or, bad_jump, is_marked_jump, jump, leaked, most_checked, leak, taint_by}
 
 -- sources that a machine with so many KiB of RAM has
 abbrev pub AreSources : ℕ → Sources → Type 0
@@ -76,10 +76,6 @@ old_bytes-fit kib (access.Load address width value device mark) fits = tt
 old_bytes-fit kib (access.Store address width value device) fits = tt
 old_bytes-fit kib (access.Swap address old new) fits = bytes_from-fit kib address 4 fits.within
 
-with_register-fit : (kib : ℕ) (places : List Place) (n : ℕ) → AllByRecursion (IsPlace kib) places → AllByRecursion (IsPlace kib) (places ++ Register n ∷ [])
-with_register-fit kib [] n fit = (tt, tt)
-with_register-fit kib (place ∷ places) n fit = (fit.0, with_register-fit kib places n fit.1)
-
 by_test : (kib : ℕ) (b : Bool) (sources others : Sources) → AreSources kib sources → AreSources kib others → AreSources kib (cond b sources others)
 by_test kib true sources others one other = one
 by_test kib false sources others one other = other
@@ -98,8 +94,8 @@ atomic-fit kib Lr rd rs2 access fits = record { result = loaded-fit kib access f
 atomic-fit kib Sc rd rs2 access fits = record { result = tt; scratch = writes_bytes-scratch kib access (register rs2); stored = writes_bytes-fit kib access (register rs2) (tt, tt) }
 atomic-fit kib Swap rd rs2 access fits = record { result = old_bytes-fit kib access fits; scratch = writes_bytes-scratch kib access (register rs2); stored = writes_bytes-fit kib access (register rs2) (tt, tt) }
 atomic-fit kib _ rd rs2 access fits =
-    let sources = From (old_bytes access ++ Register rs2 ∷ []) in
-    record { result = old_bytes-fit kib access fits; scratch = writes_bytes-scratch kib access sources; stored = writes_bytes-fit kib access sources (with_register-fit kib (old_bytes access) rs2 (old_bytes-fit kib access fits)) }
+    let sources = From (Register rs2 ∷ old_bytes access) in
+    record { result = old_bytes-fit kib access fits; scratch = writes_bytes-scratch kib access sources; stored = writes_bytes-fit kib access sources (tt, old_bytes-fit kib access fits) }
 
 scratch-fit : (kib : ℕ) (op : CsrOp) (source : ℕ) → IfSome (scratch_writes op source) (AreSources kib)
 scratch-fit kib Csrrw source = (tt, tt)
@@ -171,10 +167,13 @@ module _ (kib : ℕ) (f g : Place → ℕ) (same : (place : Place) → IsPlace k
   pub written-same : (event : Event) (place : Place) → Fits kib event → IsPlace kib place → mark_or f (sources_in (writes_of event) place) place ≡ mark_or g (sources_in (writes_of event) place) place
   written-same event place fits is = mark_or-same (sources_in (writes_of event) place) place (sources_in-fit (writes_of event) place (writes_of-fit kib event fits)) is
 
+  marked_jump-same : (instr : Option Instr) → is_marked_jump f instr ≡ is_marked_jump g instr
+  marked_jump-same None = refl
+  marked_jump-same (Some (Jalr rd rs1 imm)) = ap is_marked (same (Register rs1) tt)
+  marked_jump-same (Some _) = refl
+
   jump-same : (instr : Option Instr) (next : ℕ) → jump f instr next ≡ jump g instr next
-  jump-same None next = refl
-  jump-same (Some (Jalr rd rs1 imm)) next = ap (λ m. cond (is_marked m) (Some (bad_jump next)) None) (same (Register rs1) tt)
-  jump-same (Some _) next = refl
+  jump-same instr next = ap (λ b. cond b (Some (bad_jump next)) None) (marked_jump-same instr)
 
   leak-same : (told : Option Announcement) → leak kib f told ≡ leak kib g told
   leak-same None = refl

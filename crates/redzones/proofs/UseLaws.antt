@@ -47,7 +47,7 @@ quarter v is low = is (omega arith)
 
 pub forbidden_tests : Tests FORBIDDEN (λ v. is_forbidden (use_coded v))
 forbidden_tests = record {
-  clear = λ v is. forbidden_clear (v % 8 == 0) (v % 4 == 0) (v % 2 == 0) (zero_test (v % 4) (sym (and_mask v 2) ∙ is));
+  clear = λ v byte is. forbidden_clear (v % 8 == 0) (v % 4 == 0) (v % 2 == 0) (zero_test (v % 4) (sym (and_mask v 2) ∙ is));
   has = λ v is.
       let low : v % 4 ≢ 0 = λ e. is (and_mask v 2 ∙ e) in
       forbidden_has (v % 8 == 0) (v % 4 == 0) (v % 2 == 0) (other_test (v % 8) (quarter v low)) (other_test (v % 4) low);
@@ -55,19 +55,19 @@ forbidden_tests = record {
 
 pub dead_tests : Tests NOT_LIVE (λ v. not (is_live (use_coded v)))
 dead_tests = record {
-  clear = λ v is. dead_clear (v % 8 == 0) (v % 4 == 0) (v % 2 == 0) (zero_test (v % 8) (sym (and_mask v 3) ∙ is));
+  clear = λ v byte is. dead_clear (v % 8 == 0) (v % 4 == 0) (v % 2 == 0) (zero_test (v % 8) (sym (and_mask v 3) ∙ is));
   has = λ v is. dead_has (v % 8 == 0) (v % 4 == 0) (v % 2 == 0) (other_test (v % 8) (λ e. is (and_mask v 3 ∙ e)));
 }
 
 -- what the searches of the shadow give
-pub forbidden_found : (s : Shade) (from len to : ℕ) (o : Option ℕ) → to ≡ from + len → IfSome o (IsLeast s from to FORBIDDEN) → IfNone o (NoneBetween s FORBIDDEN from to) → o ≡ least_from (λ a. is_forbidden (use_in s a)) from len
-forbidden_found s from len to o end some none =
+pub forbidden_found : (s : Shade) (from len to : ℕ) (o : Option ℕ) → to ≡ from + len → ((a : ℕ) → shade s a < 2 ^ 8) → IfSome o (IsLeast s from to FORBIDDEN) → IfNone o (NoneBetween s FORBIDDEN from to) → o ≡ least_from (λ a. is_forbidden (use_in s a)) from len
+forbidden_found s from len to o end bytes some none =
     let length_is : to - from ≡ len = omega arith in
-    searched s FORBIDDEN (λ v. is_forbidden (use_coded v)) forbidden_tests from to o some none ∙ ap (least_from (λ a. is_forbidden (use_in s a)) from) length_is
+    searched s bytes FORBIDDEN (λ v. is_forbidden (use_coded v)) forbidden_tests from to o some none ∙ ap (least_from (λ a. is_forbidden (use_in s a)) from) length_is
 
-pub dead_found : (s : Shade) (kib from to : ℕ) (o : Option ℕ) → length s.bytes ≡ 1024 * kib → IfSome o (IsLeast s from to NOT_LIVE) → IfNone o (NoneBetween s NOT_LIVE from to) → o ≡ least_in_ram kib (λ a. not (is_live (use_in s a))) from to
-dead_found s kib from to o whole some none =
-    searched_in_ram s NOT_LIVE (λ v. not (is_live (use_coded v))) dead_tests from to o some none
+pub dead_found : (s : Shade) (kib from to : ℕ) (o : Option ℕ) → length s.bytes ≡ 1024 * kib → ((a : ℕ) → shade s a < 2 ^ 8) → IfSome o (IsLeast s from to NOT_LIVE) → IfNone o (NoneBetween s NOT_LIVE from to) → o ≡ least_in_ram kib (λ a. not (is_live (use_in s a))) from to
+dead_found s kib from to o whole bytes some none =
+    searched_in_ram s bytes NOT_LIVE (λ v. not (is_live (use_coded v))) dead_tests from to o some none
     ∙ ap (λ n. least_from (λ a. not (is_live (use_in s a))) (max from RAM_START) (min to (RAM_START + n) - max from RAM_START)) whole
 
 -- a paint leaves the size

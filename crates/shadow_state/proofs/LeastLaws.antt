@@ -1,5 +1,5 @@
 -- What a search finds, as the least address whose value passes a test.
-use Rattle.std.proofs.Common.{◌≡◌, ◌≢◌, inl, inr, ℕ, ◌+◌, ◌-◌, ◌<◌, ◌≤◌, min, max, nat_le, Bool, true, false, cond, length, get_or, Option, None, Some, refl, sym, ap, ◌∙◌, arith}
+use Rattle.std.proofs.Common.{◌≡◌, ◌≢◌, inl, inr, ℕ, ◌+◌, ◌-◌, ◌^◌, ◌<◌, ◌≤◌, min, max, nat_le, Bool, true, false, cond, length, get_or, Option, None, Some, refl, sym, ap, ◌∙◌, arith}
 use Rattle.std.specs.Prelude.{IfSome, IfNone}
 use Rattle.std.specs.Int.Bits.{bit_and}
 use Rattle.std.proofs.lemmas.Bool.{cases_lt}
@@ -42,28 +42,28 @@ in_ram_to s set address has =
       | inr above ↦ absurd (has (ap (λ v. bit_and v set) (shade-above s address above) ∙ zero_and set))
     ]
 
--- the test passes exactly the values with one of these bits
+-- the test passes exactly the bytes with one of these bits
 pub record Tests (set : ℕ) (test : ℕ → Bool) : Type 0 where
-  pub clear : (value : ℕ) → bit_and value set ≡ 0 → test value ≡ false
+  pub clear : (value : ℕ) → value < 2 ^ 8 → bit_and value set ≡ 0 → test value ≡ false
   pub has : (value : ℕ) → bit_and value set ≢ 0 → test value ≡ true
 
-module _ (s : Shade) (set : ℕ) (test : ℕ → Bool) (tests : Tests set test) (from to : ℕ) where
+module _ (s : Shade) (bytes : (address : ℕ) → shade s address < 2 ^ 8) (set : ℕ) (test : ℕ → Bool) (tests : Tests set test) (from to : ℕ) where
 
   -- over the whole range
   pub searched : (o : Option ℕ) → IfSome o (IsLeast s from to set) → IfNone o (NoneBetween s set from to) → o ≡ least_between (λ address. test (shade s address)) from to
-  searched None some none = sym (least_none (λ address. test (shade s address)) from (to - from) (λ n low high. tests.clear (shade s n) (none n low (omega arith))))
+  searched None some none = sym (least_none (λ address. test (shade s address)) from (to - from) (λ n low high. tests.clear (shade s n) (bytes n) (none n low (omega arith))))
   searched (Some address) some none =
       sym (least_found (λ address. test (shade s address)) from (to - from) (address - from) address (omega (arith, some.from_on)) (omega (arith, some.from_on, some.below)) (tests.has (shade s address) some.has_one)
-        (λ n low high. tests.clear (shade s n) (some.none_before n low (omega (arith, some.from_on)))))
+        (λ n low high. tests.clear (shade s n) (bytes n) (some.none_before n low (omega (arith, some.from_on)))))
 
   -- and clipped to RAM
   pub searched_in_ram : (o : Option ℕ) → IfSome o (IsLeast s from to set) → IfNone o (NoneBetween s set from to) → o ≡ least_between (λ address. test (shade s address)) (max from RAM_START) (min to (RAM_START + length s.bytes))
   searched_in_ram None some none =
       sym (least_none (λ address. test (shade s address)) (max from RAM_START) (min to (RAM_START + length s.bytes) - max from RAM_START)
-        (λ n low high. tests.clear (shade s n) (none n (omega arith) (omega arith))))
+        (λ n low high. tests.clear (shade s n) (bytes n) (none n (omega arith) (omega arith))))
   searched_in_ram (Some address) some none =
       let low_end = in_ram_from s set address some.has_one in
       let high_end = in_ram_to s set address some.has_one in
       sym (least_found (λ address. test (shade s address)) (max from RAM_START) (min to (RAM_START + length s.bytes) - max from RAM_START) (address - max from RAM_START) address
         (omega (arith, some.from_on, low_end)) (omega (arith, some.from_on, some.below, low_end, high_end)) (tests.has (shade s address) some.has_one)
-        (λ n low high. tests.clear (shade s n) (some.none_before n (omega arith) (omega (arith, some.from_on, low_end)))))
+        (λ n low high. tests.clear (shade s n) (bytes n) (some.none_before n (omega arith) (omega (arith, some.from_on, low_end)))))
