@@ -1,3 +1,9 @@
+pub mod ContextLaws
 mod Examples
-pub mod MadeLaws
+pub mod FindingLaws
 pub mod FirstLaws
+pub mod HeapLaws
+pub mod LookLaws
+pub mod MadeLaws
+mod Rows
+pub mod TaintLaws

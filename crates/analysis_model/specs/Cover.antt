@@ -7,6 +7,7 @@ use Rattle.run_events.specs.declared.finding.Finding.{Finding}
 use Rattle.run_events.specs.declared.finding.FindingKind.TheVariants.{Outside}
 use Rattle.machine_model.specs.Image.{Image, Segment}
 use Rattle.analysis_model.specs.Ascending.{ascending}
+use Rattle.analysis_model.specs.Look.{Complaint}
 
 -- the pc of an executed instruction
 abbrev pub executed_pc : Event → Option ℕ
@@ -49,6 +50,19 @@ executable_spans image = spans_of image.segments
 -- an address lies in some span
 abbrev pub is_within : List Span → ℕ → Bool
 is_within spans address = list_any (λ span. nat_le span.from address && nat_lt address span.to) spans
+
+abbrev pub bad_pc : ℕ → Complaint
+bad_pc pc = record { kind = Outside; address = pc }
+
+abbrev pub cover_at : List Span → ℕ → Option Complaint
+cover_at code pc = if is_within code pc then None else Some (bad_pc pc)
+
+-- an instruction was executed, or raised an exception, at a pc in no executable segment
+abbrev pub cover : List Span → Event → Option Complaint
+cover code (Dma step address word mark) = None
+cover code (Irq step pc cause next) = None
+cover code (Trap step pc word cause value next) = cover_at code pc
+cover code (Exec step pc word next result access told) = cover_at code pc
 
 abbrev pub outside_at : List Span → ℕ → ℕ → Option Finding
 outside_at code step pc = if is_within code pc then None else Some (record { step = step; pc = pc; kind = Outside; address = pc })

@@ -1,6 +1,14 @@
 pub mod Ascending
+pub mod Calls
+pub mod Complaints
+pub mod Context
 pub mod Cover
 pub mod Findings
+pub mod Heap
+pub mod InRam
 pub mod Job
+pub mod Locks
+pub mod Look
 pub mod Made
 pub mod Report
+pub mod Taint

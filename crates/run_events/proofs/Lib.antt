@@ -1,2 +1,3 @@
+pub mod AnnouncementLaws
 pub mod RecordLaws
 pub mod SequenceLaws

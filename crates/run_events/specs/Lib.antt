@@ -1,3 +1,5 @@
+pub mod Access
+pub mod Announcement
 pub mod Event
 pub mod Record
 pub mod Sequence

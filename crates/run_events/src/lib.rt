@@ -2,6 +2,7 @@
 #![tactic(auto)]
 
 mod access;
+mod announcement;
 mod event;
 mod fault;
 mod finding;
@@ -15,6 +16,7 @@ mod watcher;
 mod words;
 
 pub use access::{Access, Told};
+pub use announcement::Announcement;
 pub use event::Event;
 pub use fault::{Diverged, Why};
 pub use finding::{Finding, FindingKind, Kind};

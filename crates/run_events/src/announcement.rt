@@ -1,0 +1,68 @@
+//! What a guest announces to the analyses.
+ghost use Rattle.std.specs.Prelude.{◌≡◌};
+ghost use Rattle.run_events.specs.Announcement.{announced_by};
+
+use crate::Told;
+
+/// What a guest tells by executing `slti x0, x0, k`, an instruction without an effect, with its arguments in a0, a1 and
+/// a2. A block or a range is `size` bytes from `address` on, as whole numbers that do not wrap.
+#[derive(Clone, Copy, Debug, PartialEq, Eq)]
+pub enum Announcement {
+    /// k = 1: the block is allocated.
+    Allocate { address: u32, size: u32 },
+    /// k = 2: the block is freed.
+    Free { address: u32, size: u32 },
+    /// k = 3: the lock is acquired.
+    Acquire { lock: u32 },
+    /// k = 4: the lock is released.
+    Release { lock: u32 },
+    /// k = 5: the context is now this one. Above 63 it changes nothing.
+    Enter { context: u32 },
+    /// k = 6: the bytes of the range must be unmarked.
+    Check { address: u32, size: u32 },
+    /// k = 7: the bytes of the range are guarded by the lock.
+    Guard { address: u32, size: u32, lock: u32 },
+}
+
+impl Announcement {
+    /// What the instruction `word` announces; none where it is no `slti x0, x0, k` with k from 1 to 7.
+    #[tactic(auto, using(crate::proofs::AnnouncementLaws::announced_by_none))]
+    pub fn of(word: u32, told: Told) -> Option<Announcement>
+        ensures { result ≡ announced_by word told }
+    {
+        if word % 0x10_0000 != 0x2013 {
+            return None;
+        }
+        of_number(word, told)
+    }
+}
+
+#[tactic(auto, unfolding(crate::specs::Announcement::announced_by))]
+fn of_number(word: u32, told: Told) -> Option<Announcement>
+    ensures { result ≡ announced_by word told }
+{
+    let Told { a0, a1, a2 } = told;
+    match word {
+        0x0010_2013 => Some(Announcement::Allocate {
+            address: a0,
+            size: a1,
+        }),
+        0x0020_2013 => Some(Announcement::Free {
+            address: a0,
+            size: a1,
+        }),
+        0x0030_2013 => Some(Announcement::Acquire { lock: a0 }),
+        0x0040_2013 => Some(Announcement::Release { lock: a0 }),
+        0x0050_2013 => Some(Announcement::Enter { context: a0 }),
+        0x0060_2013 => Some(Announcement::Check {
+            address: a0,
+            size: a1,
+        }),
+        0x0070_2013 => Some(Announcement::Guard {
+            address: a0,
+            size: a1,
+            lock: a2,
+        }),
+        _ => None,
+    }
+}

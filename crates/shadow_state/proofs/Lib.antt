@@ -1,0 +1,3 @@
+mod FillLaws
+pub mod LeastLaws
+pub mod PaintLaws
