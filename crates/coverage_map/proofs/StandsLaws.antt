@@ -14,20 +14,15 @@ use Rattle.analysis_model.specs.Cover.{Span, executed_pc, executed_pcs, outside}
 use Rattle.analysis_model.specs.Findings.{findings}
 use Rattle.analysis_model.specs.Made.{code_made_of}
 use Rattle.analysis_model.specs.Report.{cover_summary}
-use Rattle.finding_tally.specs.Tallied.{Tallied, Tallies}
-use Rattle.finding_tally.proofs.TalliedLaws.{tallied_more}
-use Rattle.coverage_map.specs.Coverage.{Covered, make_now, marked, Stands, summary_now, with_mark, tallied_with, after}
+use Rattle.finding_tally.specs.Tallied.{Tallied, Tallies, tallied_with}
+use Rattle.finding_tally.proofs.TalliedLaws.{tallied_with-more}
+use Rattle.coverage_map.specs.Coverage.{Covered, make_now, marked, Stands, summary_now, with_mark, after}
 use Rattle.coverage_map.proofs.AscendingLaws.{ascending-last}
 use Rattle.coverage_map.proofs.MarkLaws.{marked_from-set}
 
 -- what it tells is what the events it has seen have to tell
 pub summary_now-seen : (c : Covered) (h : List Event) → Stands c h → summary_now c ≡ cover_summary (code_made_of (make_now c)) h
 summary_now-seen c h stands = let executed = stands.executed in let tallied = stands.tallied in cc
-
--- a finding or none
-tallied_with-more : (t : Tallied) (found : List Finding) (finding : Option Finding) → Tallies t found → Tallies (tallied_with t finding) (found ++ cons_option finding [])
-tallied_with-more t found None h = rw (append-nil found) h
-tallied_with-more t found (Some finding) h = tallied_more t _ finding refl found h
 
 -- the word of an executed instruction
 marked-more : (c : Covered) (h : List Event) (pc : ℕ) → IsWordInRam c.ram_kib pc → Stands c h → marked (with_mark c pc).marks ≡ ascending (filter_map executed_pc h ++ pc ∷ [])

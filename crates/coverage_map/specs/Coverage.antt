@@ -9,7 +9,7 @@ use Rattle.analysis_model.specs.Cover.{executed_pcs, outside_at, runs}
 use Rattle.analysis_model.specs.Findings.{findings}
 use Rattle.analysis_model.specs.Made.{code_made_of}
 use Rattle.analysis_model.specs.Report.{Summary}
-use Rattle.finding_tally.specs.Tallied.{Tallied, Tallies, with_finding}
+use Rattle.finding_tally.specs.Tallied.{Tallied, Tallies, tallied_with}
 use Rattle.coverage_map.specs.declared.area.Area.{Area}
 
 -- what coverage keeps: the RAM size in KiB, the guest's code, a mark a word of RAM, and its findings
@@ -60,10 +60,6 @@ summary_now c = record {
 -- with the mark of the word at this address
 abbrev pub with_mark : Covered → ℕ → Covered
 with_mark c pc = record c { marks = slice_set c.marks ((pc - RAM_START) / 4) true }
-
-abbrev pub tallied_with : Tallied → Option Finding → Tallied
-tallied_with t None = t
-tallied_with t (Some finding) = with_finding t finding
 
 -- with the finding of an event at this pc, where it is in no code
 abbrev pub with_outside : Covered → ℕ → ℕ → Covered

@@ -1,10 +1,11 @@
 -- A tally with one finding more.
-use Rattle.std.proofs.Common.{◌≡◌, ℕ, ◌+◌, ◌-◌, ◌^◌, ◌<◌, ◌≤◌, min, List, [], ◌∷◌, ◌++◌, Some, unwrap_or, length, take, set, refl, sym, ◌∙◌, arith, length-append}
+use Rattle.std.proofs.Common.{◌≡◌, ℕ, ◌+◌, ◌-◌, ◌^◌, ◌<◌, ◌≤◌, min, List, [], ◌∷◌, ◌++◌, Some, unwrap_or, length, take, set, Option, None, refl, sym, ◌∙◌, arith, length-append, append-nil}
+use Rattle.std.specs.List.{cons_option}
 use Rattle.std.proofs.lemmas.Bool.{cases_lt}
 use Rattle.std.proofs.lemmas.List.{take_more_set, length-take, take_all, take-append-le, take-take}
 use Rattle.run_events.specs.declared.finding.Finding.{Finding}
 use Rattle.analysis_model.specs.Findings.{first_step, tally}
-use Rattle.finding_tally.specs.Tallied.{Tallied, Tallies, with_finding}
+use Rattle.finding_tally.specs.Tallied.{Tallied, Tallies, with_finding, tallied_with}
 
 -- a front of a front with more behind it
 take_front : (n : ℕ) (xs ys : List Finding) → take n (take n xs ++ ys) ≡ take n (xs ++ ys)
@@ -24,6 +25,11 @@ tallied_more old new finding effect found tallies =
     let count = count_more found finding in
     let front = take_front 64 found (finding ∷ []) in
     rw (effect, tallies) (cc)
+
+-- and with that of an event, which has one or none
+pub tallied_with-more : (t : Tallied) (found : List Finding) (finding : Option Finding) → Tallies t found → Tallies (tallied_with t finding) (found ++ cons_option finding [])
+tallied_with-more t found None h = rw (append-nil found) h
+tallied_with-more t found (Some finding) h = tallied_more t _ finding refl found h
 
 -- a list with room keeps the next finding
 pub keep_one : (places : List Finding) (used : ℕ) (finding : Finding) → length places ≡ 64 → used < 64 → take (used + 1) (set places used finding) ≡ take 64 (take used places ++ finding ∷ [])

@@ -1,5 +1,5 @@
 -- What is kept of a list of findings.
-use Rattle.std.specs.Prelude.{◌≡◌, ℕ, ◌+◌, ◌-◌, ◌^◌, min, List, [], ◌∷◌, ◌++◌, take, Option, Some, unwrap_or}
+use Rattle.std.specs.Prelude.{◌≡◌, ℕ, ◌+◌, ◌-◌, ◌^◌, min, List, [], ◌∷◌, ◌++◌, take, Option, None, Some, unwrap_or}
 use Rattle.run_events.specs.declared.finding.Finding.{Finding}
 use Rattle.analysis_model.specs.Findings.{first_step, tally, kept}
 
@@ -24,3 +24,8 @@ with_finding t finding = record {
   count = min (t.count + 1) (2 ^ 64 - 1);
   kept = take 64 (t.kept ++ finding ∷ []);
 }
+
+-- after an event that has a finding, or none
+abbrev pub tallied_with : Tallied → Option Finding → Tallied
+tallied_with t None = t
+tallied_with t (Some finding) = with_finding t finding

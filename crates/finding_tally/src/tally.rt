@@ -1,7 +1,7 @@
 //! The tally of findings.
 ghost use Rattle.std.specs.Prelude.{◌≡◌, ◌≤◌, List, [], ◌∷◌, ◌++◌, length, take};
 ghost use Rattle.run_events.specs.declared.finding.Finding.{Finding};
-ghost use Rattle.finding_tally.specs.Tallied.{Tallies, with_finding};
+ghost use Rattle.finding_tally.specs.Tallied.{Tallies, with_finding, tallied_with};
 
 use run_events::{Finding, FindingKind};
 use std::marker::Model;
@@ -54,6 +54,15 @@ impl Tally {
         self.first = Some(self.first.unwrap_or(finding.step));
         self.count = self.count.saturating_add(1);
         self.used = keep(&mut self.places, self.used, finding);
+    }
+
+    /// Adds the finding of the next event, where it has one.
+    pub fn note(&mut self, finding: Option<Finding>)
+        ensures { self.new ≡ tallied_with self.old finding }
+    {
+        if let Some(finding) = finding {
+            self.add(finding);
+        }
     }
 
     /// The step of the first finding.
