@@ -22,6 +22,7 @@ Holds-push bound ring moves link holds = record {
   where
     kept : (waiting : ℕ) → waiting < bound → slice_get (take ring.capacity (link ∷ ring.items)) waiting ≡ slice_get (link ∷ ring.items) waiting
     kept waiting h = slice_get-take ring.capacity (link ∷ ring.items) waiting (omega (arith, holds.room))
+
     answers : (waiting : ℕ) → waiting < bound → answered bound waiting (Push link ∷ moves) ≡ slice_get (take ring.capacity (link ∷ ring.items)) waiting
     answers zero h = sym (kept zero h)
     answers (suc waiting) h = holds.answers waiting (omega arith) ∙ sym (kept (suc waiting) h)
@@ -36,13 +37,14 @@ Holds-pop bound ring moves holds = record {
   where
     next : (waiting : ℕ) → slice_get (drop 1 ring.items) waiting ≡ slice_get ring.items (waiting + 1)
     next waiting = slice_get-drop 1 ring.items waiting (waiting + 1) (omega arith)
+
     answers : (waiting : ℕ) → waiting < bound → answered bound waiting (Pop ∷ moves) ≡ slice_get (drop 1 ring.items) waiting
     answers waiting h =
-      elim (cases_lt (waiting + 1) bound) [
-        | inl room ↦
-            let test : nat_lt (waiting + 1) bound ≡ true = grind (arith, nat_tests) in
-            rw test (holds.answers (waiting + 1) room ∙ sym (next waiting))
-        | inr full ↦
-            let test : nat_lt (waiting + 1) bound ≡ false = grind (arith, nat_tests) in
-            rw test (sym (next waiting ∙ slice_get_past ring.items (waiting + 1) (omega (arith, holds.few))))
-      ]
+        elim (cases_lt (waiting + 1) bound) [
+          | inl room ↦
+              let test : nat_lt (waiting + 1) bound ≡ true = grind (arith, nat_tests) in
+              rw test (holds.answers (waiting + 1) room ∙ sym (next waiting))
+          | inr full ↦
+              let test : nat_lt (waiting + 1) bound ≡ false = grind (arith, nat_tests) in
+              rw test (sym (next waiting ∙ slice_get_past ring.items (waiting + 1) (omega (arith, holds.few))))
+        ]

@@ -65,22 +65,23 @@ Rings-move rings running newer before ring move small step held = record { whole
   where
     room : running < length rings
     room = omega (arith, held.whole)
+
     holds : (context : ℕ) → context < 64 → Holds frames_kept (ring_at (set rings running ring) context) (moves_with running (move ∷ newer) context before)
     holds context h =
-      elim (cases_eq running context) [
-        | inl same ↦
-            let moves = newer ++ moves_in context before in
-            let now : Holds frames_kept (ring_at rings running) moves =
+        elim (cases_eq running context) [
+          | inl same ↦
+              let moves = newer ++ moves_in context before in
+              let now : Holds frames_kept (ring_at rings running) moves =
               Holds_along frames_kept (ring_at rings context) (ring_at rings running) (moves_with running newer context before) moves (ap (ring_at rings) (sym same)) (with-running running context newer before same) (held.holds context h) in
-            let there : ring ≡ ring_at (set rings running ring) context = sym (get_or-set_same rings running ring (buffer [] 0) room) ∙ ap (ring_at (set rings running ring)) same in
-            Holds_along frames_kept ring (ring_at (set rings running ring) context) (move ∷ moves) (moves_with running (move ∷ newer) context before) there (sym (with-running running context (move ∷ newer) before same)) (step moves now)
-        | inr apart ↦
-            let apart_back : context ≢ running = λ e. apart (sym e) in
-            Holds_along frames_kept (ring_at rings context) (ring_at (set rings running ring) context) (moves_with running newer context before) (moves_with running (move ∷ newer) context before)
+              let there : ring ≡ ring_at (set rings running ring) context = sym (get_or-set_same rings running ring (buffer [] 0) room) ∙ ap (ring_at (set rings running ring)) same in
+              Holds_along frames_kept ring (ring_at (set rings running ring) context) (move ∷ moves) (moves_with running (move ∷ newer) context before) there (sym (with-running running context (move ∷ newer) before same)) (step moves now)
+          | inr apart ↦
+              let apart_back : context ≢ running = λ e. apart (sym e) in
+              Holds_along frames_kept (ring_at rings context) (ring_at (set rings running ring) context) (moves_with running newer context before) (moves_with running (move ∷ newer) context before)
               (sym (get_or-set_other rings running context ring (buffer [] 0) apart_back))
               (with-other running context newer before apart ∙ sym (with-other running context (move ∷ newer) before apart))
               (held.holds context h)
-      ]
+        ]
 
 Rings-push : (rings : List (Buffer ℕ)) (running : ℕ) (newer : List Move) (before : List Event) (next : ℕ) → running < 64 → Rings rings running newer before → Rings (set rings running (pushed_on (ring_at rings running) next)) running (Push next ∷ newer) before
 Rings-push rings running newer before next small held =

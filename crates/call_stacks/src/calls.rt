@@ -104,7 +104,15 @@ impl Calls {
         requires { Fits self.old.ram_kib event.now }
         ensures { self.new ≡ after self.old event.now }
     {
-        if let Event::Exec { step, pc, word, next, told, .. } = *event {
+        if let Event::Exec {
+            step,
+            pc,
+            word,
+            next,
+            told,
+            ..
+        } = *event
+        {
             match link_of_word(word) {
                 Link::Plain => {}
                 Link::Push => self.push(pc),

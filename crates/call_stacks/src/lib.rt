@@ -5,5 +5,7 @@ mod calls;
 mod moves;
 mod rings;
 mod shared;
+#[cfg(test)]
+mod tests;
 
 pub use calls::Calls;

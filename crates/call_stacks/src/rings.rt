@@ -11,6 +11,7 @@ use std::alloc::Global;
 pub type Frames = HeapCircularBuffer<u32>;
 
 const FRAMES: usize = 4096;
+
 const CONTEXTS: u32 = 64;
 
 /// An empty ring for each context.
