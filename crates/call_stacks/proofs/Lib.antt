@@ -1,0 +1,2 @@
+mod RingLaws
+mod StackLaws

@@ -1,0 +1,180 @@
+//! The analysis of calls and returns.
+ghost use Rattle.std.specs.Prelude.{◌≡◌, ℕ, ◌+◌, ◌*◌, ◌^◌, ◌<◌, ◌≤◌, List, [], ◌∷◌, ◌++◌, length, Option, IfOk};
+ghost use Rattle.run_events.specs.declared.event.Event.{Event};
+ghost use Rattle.run_events.specs.declared.finding.Kind.TheVariants.{Calls as calls_kind};
+ghost use Rattle.run_events.specs.Announcement.{announced_by};
+ghost use Rattle.run_events.specs.Event.{Fits, IsWordInRam};
+ghost use Rattle.analysis_model.specs.Context.{entered};
+ghost use Rattle.analysis_model.specs.Findings.{first_step, tally, kept};
+ghost use Rattle.analysis_model.specs.Made.{make_of};
+ghost use Rattle.call_stacks.specs.Stacks.{Stacks, Stands, make_now, calls_found, unmatched_in, pushed, popped, front_of, judged, returned, moved, in_context, after};
+
+use crate::moves::link_of_word;
+use crate::rings::{Frames, empty_rings};
+use elf_image::Image;
+use finding_tally::Tally;
+use memory_map::NoMemory;
+use run_events::{Announcement, Event, Finding, FindingKind, Told, Watcher};
+use rv_decode::Link;
+use std::alloc::Global;
+use std::marker::Model;
+
+/// Whether the guest's returns go back to where its calls came from, a stack of return addresses a context.
+#[derive(Drop)]
+pub struct Calls {
+    ram_kib: u32,
+    context: usize,
+    rings: Vec<Frames>,
+    unmatched: u64,
+    found: Tally,
+}
+
+impl Model for Calls {
+    ghost Value = { Stacks };
+
+    ghost view = { λ c. record { ram_kib = c.ram_kib; context = c.context; rings = c.rings.items; unmatched = c.unmatched; found = c.found } };
+
+    ghost invariant = { λ c. (c.ram_kib ≤ 16384) × (c.context < 64) × (length c.rings.items ≡ 64) };
+}
+
+impl Watcher for Calls {
+    ghost has_seen = { Stands };
+
+    ghost ram_kib = { λ c. c.ram_kib };
+
+    ghost make = { make_now };
+
+    fn see(&mut self, event: &Event) {
+        self.take_in(event);
+    }
+}
+
+impl Calls {
+    /// Nothing seen yet, of a guest with `ram_kib` KiB of RAM; its image tells nothing of calls. It is the only call that
+    /// takes memory.
+    pub fn new(alloc: Global, _image: &Image, ram_kib: u32) -> Result<Calls, NoMemory>
+        requires least { 64 ≤ ram_kib }
+        requires most { ram_kib ≤ 16384 }
+        ensures seen { IfOk result (λ c. Stands c []) }
+        ensures size { IfOk result (λ c. c.ram_kib ≡ ram_kib) }
+        ensures made { IfOk result (λ c. make_now c ≡ make_of calls_kind _image.now) }
+    {
+        Ok(Calls {
+            ram_kib,
+            context: 0,
+            rings: empty_rings(alloc)?,
+            unmatched: 0,
+            found: Tally::new(),
+        })
+    }
+
+    /// The step of the first finding.
+    pub fn first(&self) -> Option<u32>
+        ensures now { result ≡ self.now.found.first }
+        ensures seen { (h : List Event) → Stands self.now h → result ≡ first_step (calls_found h) }
+    {
+        self.found.first()
+    }
+
+    /// How many findings there are, at most 2^64 - 1.
+    pub fn count(&self) -> u64
+        ensures now { result ≡ self.now.found.count }
+        ensures seen { (h : List Event) → Stands self.now h → result ≡ tally (calls_found h) }
+    {
+        self.found.count()
+    }
+
+    /// The first findings, at most 64, in order.
+    pub fn kept(&self) -> &[Finding]
+        ensures now { result.now ≡ self.now.found.kept }
+        ensures seen { (h : List Event) → Stands self.now h → result.now ≡ kept (calls_found h) }
+    {
+        self.found.kept()
+    }
+
+    /// How many returns answer no call, at most 2^64 - 1. They are no findings.
+    pub fn unmatched(&self) -> u64
+        ensures now { result ≡ self.now.unmatched }
+        ensures seen { (h : List Event) → Stands self.now h → result ≡ unmatched_in h }
+    {
+        self.unmatched
+    }
+
+    fn take_in(&mut self, event: &Event)
+        requires { Fits self.old.ram_kib event.now }
+        ensures { self.new ≡ after self.old event.now }
+    {
+        if let Event::Exec {
+            step,
+            pc,
+            word,
+            next,
+            told,
+            ..
+        } = *event
+        {
+            match link_of_word(word) {
+                Link::Plain => {}
+                Link::Push => self.push(pc),
+                Link::Pop => self.pop(step, pc, next),
+                Link::PopPush => {
+                    self.pop(step, pc, next);
+                    self.push(pc);
+                }
+            }
+            self.enter(word, told);
+        }
+    }
+
+    // The call at `pc` returns to the instruction after it.
+    fn push(&mut self, pc: u32)
+        requires { IsWordInRam self.old.ram_kib pc }
+        ensures { self.new ≡ pushed self.old (pc + 4) }
+    {
+        let frames = &mut self.rings[self.context];
+        let _dropped = frames.push_front(pc + 4);
+    }
+
+    fn pop(&mut self, step: u32, pc: u32, next: u32)
+        ensures { self.new ≡ returned self.old step pc next }
+    {
+        let answer = self.pop_frame();
+        self.judge(answer, step, pc, next);
+    }
+
+    fn pop_frame(&mut self) -> Option<u32>
+        ensures answer { result ≡ front_of self.old }
+        ensures rest { self.new ≡ popped self.old }
+    {
+        let frames = &mut self.rings[self.context];
+        frames.pop_front()
+    }
+
+    fn judge(&mut self, answer: Option<u32>, step: u32, pc: u32, next: u32)
+        ensures { self.new ≡ judged self.old answer step pc next }
+    {
+        match answer {
+            None => self.unmatched = self.unmatched.saturating_add(1),
+            Some(wanted) => {
+                if wanted != next {
+                    self.found.add(Finding {
+                        step,
+                        pc,
+                        kind: FindingKind::Return,
+                        address: wanted,
+                    });
+                }
+            }
+        }
+    }
+
+    fn enter(&mut self, word: u32, told: Told)
+        ensures { self.new ≡ in_context self.old (entered (announced_by word told)) }
+    {
+        if let Some(Announcement::Enter { context }) = Announcement::of(word, told) {
+            if context <= 63 {
+                self.context = context as usize;
+            }
+        }
+    }
+}

@@ -1,0 +1,5 @@
+mod CountedLaws
+mod GuardLaws
+mod HeldLaws
+pub mod OpenLaws
+mod StateLaws

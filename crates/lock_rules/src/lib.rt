@@ -1,0 +1,9 @@
+//! Locks: who holds which, and whether the bytes that they guard are touched without them.
+#![tactic(auto)]
+
+mod guard;
+mod lock;
+mod locks;
+mod shared;
+
+pub use locks::Locks;

@@ -1,0 +1,261 @@
+//! The analysis of locks.
+ghost use Rattle.std.specs.Prelude.{◌≡◌, ℕ, ◌*◌, ◌<◌, ◌≤◌, List, [], ◌∷◌, ◌++◌, length, map, Option, None, Some, IfOk};
+ghost use Rattle.std.specs.Option.{option_map};
+ghost use Rattle.std.specs.List.{position_from};
+ghost use Rattle.run_events.specs.declared.announcement.Announcement.TheVariants as announce;
+ghost use Rattle.run_events.specs.declared.event.Event.{Event};
+ghost use Rattle.run_events.specs.declared.finding.Kind.TheVariants.{Locks as locks_kind};
+ghost use Rattle.run_events.specs.Access.{touched_from, touched_len};
+ghost use Rattle.analysis_model.specs.Findings.{first_step, tally, kept};
+ghost use Rattle.analysis_model.specs.Locks.{locks_kept, bad_acquire, bad_release};
+ghost use Rattle.analysis_model.specs.Made.{make_of};
+ghost use Rattle.lock_rules.specs.State.{Stands, make_now, locks_found, known_with, guards_with, told_state, finding_at, heard, opened, noted, after};
+
+use crate::guard::{Guard, least_open};
+use crate::lock::{Lock, holder_of, is_held_by, is_known, place_of, set_holder};
+use elf_image::Image;
+use finding_tally::Tally;
+use memory_map::NoMemory;
+use run_events::{Access, Announcement, Event, Finding, FindingKind, Watcher};
+use std::alloc::Global;
+use std::marker::Model;
+
+/// Who holds which lock, and whether the bytes that locks guard are touched without them.
+#[derive(Drop)]
+pub struct Locks {
+    ram_kib: u32,
+    context: u32,
+    locks: Vec<Lock>,
+    guards: Vec<Guard>,
+    found: Tally,
+}
+
+// So many locks count, and so many ranges.
+const KEPT: usize = 256;
+
+impl Model for Locks {
+    ghost use Rattle.std.specs.Prelude.{◌≡◌};
+    ghost use Rattle.std.specs.Vec.{vec_capacity};
+    ghost use Rattle.lock_rules.specs.State.{LockState};
+
+    ghost Value = { LockState };
+
+    ghost view = { λ l. record { ram_kib = l.ram_kib; context = l.context; locks = l.locks.items; guards = l.guards.items; found = l.found } };
+
+    ghost invariant = { λ l. (vec_capacity l.locks ≡ 256) × (vec_capacity l.guards ≡ 256) };
+}
+
+impl Watcher for Locks {
+    ghost has_seen = { Stands };
+
+    ghost ram_kib = { λ l. l.ram_kib };
+
+    ghost make = { make_now };
+
+    fn see(&mut self, event: &Event) {
+        self.take_in(event);
+    }
+}
+
+impl Locks {
+    /// Nothing seen yet, of a guest with `ram_kib` KiB of RAM; its image tells nothing of locks. It is the only call that
+    /// takes memory.
+    pub fn new(alloc: Global, _image: &Image, ram_kib: u32) -> Result<Locks, NoMemory>
+        requires least { 64 ≤ ram_kib }
+        requires most { ram_kib ≤ 16384 }
+        ensures seen { IfOk result (λ l. Stands l []) }
+        ensures size { IfOk result (λ l. l.ram_kib ≡ ram_kib) }
+        ensures made { IfOk result (λ l. make_now l ≡ make_of locks_kind _image.now) }
+    {
+        Ok(Locks {
+            ram_kib,
+            context: 0,
+            locks: Vec::with_capacity(alloc, KEPT)?,
+            guards: Vec::with_capacity(alloc, KEPT)?,
+            found: Tally::new(),
+        })
+    }
+
+    /// The step of the first finding.
+    pub fn first(&self) -> Option<u32>
+        ensures now { result ≡ self.now.found.first }
+        ensures seen { (h : List Event) → Stands self.now h → result ≡ first_step (locks_found h) }
+    {
+        self.found.first()
+    }
+
+    /// How many findings there are, at most 2^64 - 1.
+    pub fn count(&self) -> u64
+        ensures now { result ≡ self.now.found.count }
+        ensures seen { (h : List Event) → Stands self.now h → result ≡ tally (locks_found h) }
+    {
+        self.found.count()
+    }
+
+    /// The first findings, at most 64, in order.
+    pub fn kept(&self) -> &[Finding]
+        ensures now { result.now ≡ self.now.found.kept }
+        ensures seen { (h : List Event) → Stands self.now h → result.now ≡ kept (locks_found h) }
+    {
+        self.found.kept()
+    }
+
+    fn take_in(&mut self, event: &Event)
+        ensures { self.new ≡ after self.old event.now }
+    {
+        if let Event::Exec {
+            step,
+            pc,
+            word,
+            access,
+            told,
+            ..
+        } = *event
+        {
+            let open = self.look(step, pc, access);
+            let finding = self.hear(step, pc, Announcement::of(word, told)).or(open);
+            self.found.note(finding);
+        }
+    }
+
+    // The finding of an access: the least byte that a range guards by a lock that the context does not hold.
+    fn look(&self, step: u32, pc: u32, access: Access) -> Option<Finding>
+        ensures { result ≡ option_map (finding_at step pc) (opened self.now access) }
+    {
+        let (from, size) = touched(access);
+        match least_open(&self.locks, &self.guards, self.context, from, size) {
+            None => None,
+            Some(address) => Some(Finding {
+                step,
+                pc,
+                kind: FindingKind::Unguarded,
+                address,
+            }),
+        }
+    }
+
+    // Takes in an announcement, and answers its finding.
+    fn hear(&mut self, step: u32, pc: u32, told: Option<Announcement>) -> Option<Finding>
+        ensures finding { result ≡ option_map (finding_at step pc) (heard self.old told) }
+        ensures state { self.new ≡ told_state self.old told }
+    {
+        match told {
+            Some(Announcement::Acquire { lock }) => self.acquire(step, pc, lock),
+            Some(Announcement::Release { lock }) => self.release(step, pc, lock),
+            Some(
+                Announcement::Guard {
+                    address,
+                    size,
+                    lock,
+                },
+            ) => {
+                self.guard(address, size, lock);
+                None
+            }
+            Some(Announcement::Enter { context }) => {
+                self.enter(context);
+                None
+            }
+            Some(Announcement::Allocate { .. })
+            | Some(Announcement::Free { .. })
+            | Some(Announcement::Check { .. })
+            | None => None,
+        }
+    }
+
+    fn acquire(&mut self, step: u32, pc: u32, lock: u32) -> Option<Finding>
+        ensures finding { result ≡ option_map (finding_at step pc) (heard self.old (Some (announce.Acquire lock))) }
+        ensures state { self.new ≡ told_state self.old (Some (announce.Acquire lock)) }
+    {
+        self.name(lock);
+        let is_bad = is_known(&self.locks, lock) && holder_of(&self.locks, lock).is_some();
+        set_holder(&mut self.locks, lock, Some(self.context));
+        if is_bad {
+            Some(Finding {
+                step,
+                pc,
+                kind: FindingKind::Reacquire,
+                address: lock,
+            })
+        } else {
+            None
+        }
+    }
+
+    fn release(&mut self, step: u32, pc: u32, lock: u32) -> Option<Finding>
+        ensures finding { result ≡ option_map (finding_at step pc) (heard self.old (Some (announce.Release lock))) }
+        ensures state { self.new ≡ told_state self.old (Some (announce.Release lock)) }
+    {
+        self.name(lock);
+        let holder = holder_of(&self.locks, lock);
+        let is_bad = is_known(&self.locks, lock) && !is_held_by(holder, self.context);
+        set_holder(&mut self.locks, lock, None);
+        if is_bad {
+            Some(Finding {
+                step,
+                pc,
+                kind: FindingKind::BadRelease,
+                address: lock,
+            })
+        } else {
+            None
+        }
+    }
+
+    fn guard(&mut self, start: u32, size: u32, lock: u32)
+        ensures { self.new ≡ told_state self.old (Some (announce.Guard start size lock)) }
+    {
+        self.name(lock);
+        if let Some(place) = place_of(&self.locks, lock) {
+            self.add_guard(start, size, place);
+        }
+    }
+
+    #[tactic(auto, unfolding(analysis_model::specs::Locks::locks_kept))]
+    fn add_guard(&mut self, start: u32, size: u32, place: usize)
+        ensures { self.new ≡ record self.old { guards = guards_with self.old.guards start size (Some place) } }
+    {
+        if self.guards.len() < KEPT {
+            self.guards.push_reserved(Guard {
+                from: start,
+                to: u64::from(start) + u64::from(size),
+                place,
+            });
+        }
+    }
+
+    // Lets the lock count, where it is new and there is room.
+    #[tactic(auto, unfolding(analysis_model::specs::Locks::locks_kept))]
+    fn name(&mut self, number: u32)
+        ensures { self.new ≡ record self.old { locks = known_with self.old.locks (Some number) } }
+    {
+        if !is_known(&self.locks, number) && self.locks.len() < KEPT {
+            self.locks.push_reserved(Lock {
+                number,
+                holder: None,
+            });
+        }
+    }
+
+    fn enter(&mut self, context: u32)
+        ensures { self.new ≡ told_state self.old (Some (announce.Enter context)) }
+    {
+        if context <= 63 {
+            self.context = context;
+        }
+    }
+}
+
+// The first byte that an access touches, and how many.
+fn touched(access: Access) -> (u32, u32)
+    ensures from { result.0 ≡ touched_from access }
+    ensures size { result.1 ≡ touched_len access }
+{
+    match access {
+        Access::Quiet => (0, 0),
+        Access::Load { address, width, .. } | Access::Store { address, width, .. } => {
+            (address, width)
+        }
+        Access::Swap { address, .. } => (address, 4),
+    }
+}
