@@ -1,0 +1,9 @@
+//! The board: serial line, timer, disk and power register, driven by a script that it goes through once.
+#![tactic(auto)]
+
+mod effect;
+mod register;
+mod timer;
+mod transfer;
+
+pub use effect::Effect;
