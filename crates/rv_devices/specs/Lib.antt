@@ -1,3 +1,5 @@
+pub mod Entries
+pub mod Follows
 pub mod Named
 pub mod Sends
 pub mod Times

@@ -3,6 +3,7 @@
 
 mod effect;
 mod register;
+mod schedule;
 mod timer;
 mod transfer;
 
