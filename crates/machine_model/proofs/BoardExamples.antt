@@ -1,6 +1,6 @@
 -- The board's definitions, computed on small scripts.
 use Rattle.std.proofs.Common.{◌≡◌, ℕ, ◌+◌, ◌-◌, ◌^◌, List, [], ◌∷◌, length, replicate, slice_get, Some, refl}
-use Rattle.memory_map.specs.declared.TheConstants.{RAM_START, MTIMECMP, MTIMECMP_HIGH, MTIME, MTIME_HIGH, SERIAL_DATA, SERIAL_STATUS, SERIAL_CTRL, DISK_SECTOR, DISK_ADDR, DISK_CMD, DISK_STATUS, DISK_CTRL, DISK_COUNT}
+use Rattle.memory_map.specs.declared.TheConstants.{RAM_START, MTIMECMP_LOW, MTIMECMP_HIGH, MTIME_LOW, MTIME_HIGH, SERIAL_DATA, SERIAL_STATUS, SERIAL_CTRL, DISK_SECTOR, DISK_ADDR, DISK_CMD, DISK_STATUS, DISK_CTRL, DISK_COUNT}
 use Rattle.run_events.specs.declared.supply.DmaWord.{DmaWord}
 use Rattle.machine_model.specs.Script.{Script, Serial, Tick, Latency}
 use Rattle.machine_model.specs.Board.{BoardState, reset_board, given_at, after_load, after_store, board_lines, words_before, at_step, words_of, mtime, latency}
@@ -85,7 +85,7 @@ five_ticks : Script
 five_ticks = record { clock = 1000000000; sectors = []; entries = record { at = 10; what = Tick 5 } ∷ [] }
 
 armed : BoardState
-armed = done five_ticks 7 [] (reset_board []) (Store MTIMECMP 5 ∷ Store MTIMECMP_HIGH 0 ∷ [])
+armed = done five_ticks 7 [] (reset_board []) (Store MTIMECMP_LOW 5 ∷ Store MTIMECMP_HIGH 0 ∷ [])
 
 time_before : mtime five_ticks 9 armed ≡ 0
 unfolding five_ticks armed done after
@@ -123,12 +123,12 @@ unfolding fast high_set done after
 goes_on = refl
 
 -- the low half set to its largest value: the next rise carries
-carries : mtime fast 9 (done fast 8 [] (reset_board []) (Store MTIME (2 ^ 32 - 1) ∷ [])) ≡ 2 ^ 32
+carries : mtime fast 9 (done fast 8 [] (reset_board []) (Store MTIME_LOW (2 ^ 32 - 1) ∷ [])) ≡ 2 ^ 32
 unfolding fast done after
 carries = refl
 
 -- and set to 0: mtime falls
-falls : mtime fast 300 (done fast 299 [] (reset_board []) (Store MTIME 0 ∷ [])) ≡ 1
+falls : mtime fast 300 (done fast 299 [] (reset_board []) (Store MTIME_LOW 0 ∷ [])) ≡ 1
 unfolding fast done after
 falls = refl
 

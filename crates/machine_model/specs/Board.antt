@@ -4,7 +4,7 @@ use Rattle.std.specs.Prelude.{ℕ, ◌≤◌, ◌+◌, ◌-◌, ◌*◌, ◌/◌
 use Rattle.std.specs.Option.{option_and_then, option_map_or}
 use Rattle.std.specs.List.{filter_map, flat_map, list_any}
 use Rattle.std.specs.Int.{w32, from_le_bytes}
-use Rattle.memory_map.specs.declared.TheConstants.{RAM_START, MTIMECMP, MTIMECMP_HIGH, MTIME, MTIME_HIGH, SERIAL_DATA, SERIAL_STATUS, SERIAL_CTRL, DISK_SECTOR, DISK_ADDR, DISK_CMD, DISK_STATUS, DISK_CTRL, DISK_COUNT, POWER}
+use Rattle.memory_map.specs.declared.TheConstants.{RAM_START, MTIMECMP_LOW, MTIMECMP_HIGH, MTIME_LOW, MTIME_HIGH, SERIAL_DATA, SERIAL_STATUS, SERIAL_CTRL, DISK_SECTOR, DISK_ADDR, DISK_CMD, DISK_STATUS, DISK_CTRL, DISK_COUNT, POWER}
 use Rattle.memory_map.specs.Ram.{in_ram}
 use Rattle.rv_memory.specs.Ram.{placed}
 use Rattle.run_events.specs.declared.supply.Supplied.{Supplied}
@@ -31,9 +31,9 @@ pub data Register : Type 0 where
 -- where each of them is
 abbrev pub registers : List (ℕ × Register)
 registers =
-    (MTIMECMP, CompareLow)
+    (MTIMECMP_LOW, CompareLow)
     ∷ (MTIMECMP_HIGH, CompareHigh)
-    ∷ (MTIME, TimeLow)
+    ∷ (MTIME_LOW, TimeLow)
     ∷ (MTIME_HIGH, TimeHigh)
     ∷ (SERIAL_DATA, SerialData)
     ∷ (SERIAL_STATUS, SerialStatus)

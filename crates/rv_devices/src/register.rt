@@ -5,8 +5,8 @@ ghost use Rattle.machine_model.specs.Board as model;
 ghost use Rattle.rv_devices.specs.Named.{named};
 
 use memory_map::{
-    DISK_ADDR, DISK_CMD, DISK_COUNT, DISK_CTRL, DISK_SECTOR, DISK_STATUS, MTIME, MTIME_HIGH,
-    MTIMECMP, MTIMECMP_HIGH, POWER, SERIAL_CTRL, SERIAL_DATA, SERIAL_STATUS,
+    DISK_ADDR, DISK_CMD, DISK_COUNT, DISK_CTRL, DISK_SECTOR, DISK_STATUS, MTIME_LOW, MTIME_HIGH,
+    MTIMECMP_LOW, MTIMECMP_HIGH, POWER, SERIAL_CTRL, SERIAL_DATA, SERIAL_STATUS,
 };
 
 #[derive(Clone, Copy)]
@@ -33,9 +33,9 @@ pub fn find(address: u32) -> Option<Register>
     ensures { option_map named result ≡ model.register_at address }
 {
     match address {
-        MTIMECMP => Some(Register::CompareLow),
+        MTIMECMP_LOW => Some(Register::CompareLow),
         MTIMECMP_HIGH => Some(Register::CompareHigh),
-        MTIME => Some(Register::TimeLow),
+        MTIME_LOW => Some(Register::TimeLow),
         MTIME_HIGH => Some(Register::TimeHigh),
         SERIAL_DATA => Some(Register::SerialData),
         SERIAL_STATUS => Some(Register::SerialStatus),
