@@ -1,10 +1,8 @@
 //! The entries of a script, gone through once.
-ghost use Rattle.std.specs.Prelude.{◌≡◌, ℕ, ◌+◌, ◌%◌, ◌^◌, ◌≤◌, ◌<◌, List, Option, Some, None, drop, length, slice_get};
+ghost use Rattle.std.specs.Prelude.{◌≡◌, ◌+◌, ◌^◌, ◌<◌, length, slice_get, OnSome};
 ghost use Rattle.std.specs.Option.{option_map, option_to_list};
-ghost use Rattle.run_events.specs.declared.supply.Supplied.{Supplied};
-ghost use Rattle.machine_model.specs.Script.{Entry as Arrives};
 ghost use Rattle.machine_model.specs.Board as model;
-ghost use Rattle.rv_devices.specs.Entries.{AreDue, AreLater, ticks_before, latency_before, given, arrivals_at};
+ghost use Rattle.rv_devices.specs.Entries.{given};
 
 use in_script::{Entry, What};
 use run_events::Supplied;
@@ -21,7 +19,14 @@ pub struct Schedule {
     pub taken: usize,
 }
 
-/// The ticks of an entry.
+// The step before which an entry is due.
+fn step_of(entry: &Entry) -> u32
+    ensures { result ≡ entry.now.at }
+{
+    entry.at
+}
+
+// The ticks of an entry.
 fn ticks(entry: &Entry) -> u32
     ensures { result ≡ model.ticks_by entry.now.what }
 {
@@ -31,7 +36,7 @@ fn ticks(entry: &Entry) -> u32
     }
 }
 
-/// The latency after an entry.
+// The latency after an entry.
 fn latency_after(entry: &Entry, latency: u32) -> u32
     ensures { result ≡ model.last_or latency (option_to_list (model.latency_by entry.now.what)) }
 {
@@ -41,7 +46,7 @@ fn latency_after(entry: &Entry, latency: u32) -> u32
     }
 }
 
-/// How many serial bytes an entry has.
+// How many serial bytes an entry has.
 fn byte_count(entry: &Entry) -> usize
     ensures { result ≡ length (model.arrivals_of entry.now) }
 {
@@ -51,9 +56,10 @@ fn byte_count(entry: &Entry) -> usize
     }
 }
 
-/// An entry's serial byte behind so many of them.
+// An entry's serial byte after so many of them.
 fn byte_after(entry: &Entry, taken: usize) -> Option<Supplied>
-    ensures { result ≡ option_map given (slice_get (model.arrivals_of entry.now) taken) }
+    ensures byte { result ≡ option_map given (slice_get (model.arrivals_of entry.now) taken) }
+    ensures room { OnSome result (taken + 1 < 2 ^ 64) }
 {
     match &entry.what {
         What::Serial { bytes, mark } => match bytes.as_slice().get(taken) {
@@ -68,11 +74,11 @@ fn byte_after(entry: &Entry, taken: usize) -> Option<Supplied>
 }
 
 impl Schedule {
-    ghost use Rattle.std.specs.Prelude.{◌≡◌, ℕ, ◌+◌, ◌%◌, ◌^◌, ◌≤◌, ◌<◌, List, [], length, slice_get, drop, nat_le, nat_lt, IfSome, if◌then◌else◌};
-    ghost use Rattle.run_events.specs.declared.supply.Supplied.{Supplied};
+    ghost use Rattle.std.specs.Prelude.{◌≡◌, ℕ, ◌+◌, ◌%◌, ◌^◌, ◌≤◌, ◌<◌, List, length, slice_get, drop, nat_le, nat_lt, IfSome, OnSome, if◌then◌else◌};
+    ghost use Rattle.std.specs.Option.{option_map};
     ghost use Rattle.machine_model.specs.Script.{Entry as Arrives};
     ghost use Rattle.machine_model.specs.Board.{RisesFrom, byte_given};
-    ghost use Rattle.rv_devices.specs.Entries.{AreDue, AreLater, ticks_before, latency_before, arrivals_at};
+    ghost use Rattle.rv_devices.specs.Entries.{AreDue, AreLater, ticks_before, latency_before, arrivals_at, given};
     ghost use Rattle.rv_devices.specs.Follows.{Follows, left_of, next_byte};
 
     /// The schedule of these entries, before the first step.
@@ -102,7 +108,7 @@ impl Schedule {
         let mut passed = 0u64;
         'entries: while self.place < self.entries.len() {
             let entry = &self.entries[self.place];
-            if entry.at > step {
+            if step_of(entry) > step {
                 break;
             }
             passed = passed.wrapping_add(u64::from(ticks(entry)));
@@ -155,9 +161,10 @@ impl Schedule {
     pub fn due(&self) -> u64
         ensures { RisesFrom 0 self.now.entries.items → AreLater result (drop self.now.place self.now.entries.items) }
     {
-        match self.entries.get(self.place) {
-            Some(entry) => u64::from(entry.at),
-            None => u64::MAX,
+        if self.place < self.entries.len() {
+            u64::from(step_of(&self.entries[self.place]))
+        } else {
+            u64::MAX
         }
     }
 
@@ -168,6 +175,20 @@ impl Schedule {
         self.source < self.place
     }
 
+    // The serial byte that waits.
+    fn next_byte(&self) -> Option<Supplied>
+        ensures byte { result ≡ option_map given (next_byte self.now) }
+        ensures room { OnSome result (self.now.taken + 1 < 2 ^ 64) }
+    {
+        if self.source >= self.place {
+            return None;
+        }
+        match self.entries.get(self.source) {
+            Some(entry) => byte_after(entry, self.taken),
+            None => None,
+        }
+    }
+
     /// Takes the serial byte that waits, if one does.
     pub fn take(&mut self) -> Supplied
         requires { self.old.source ≤ self.old.place }
@@ -176,14 +197,7 @@ impl Schedule {
         ensures place { self.new.place ≡ self.old.place }
         ensures within { self.new.source ≤ self.new.place }
     {
-        if self.source >= self.place {
-            return Supplied { value: 0, mark: 0 };
-        }
-        let byte = match self.entries.get(self.source) {
-            Some(entry) => byte_after(entry, self.taken),
-            None => None,
-        };
-        let Some(byte) = byte else {
+        let Some(byte) = self.next_byte() else {
             return Supplied { value: 0, mark: 0 };
         };
         self.taken += 1;
