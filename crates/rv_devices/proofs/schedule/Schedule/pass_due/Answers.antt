@@ -1,4 +1,4 @@
-use Rattle.std.proofs.Common.{◌≡◌, ◌+◌, ◌≤◌, ◌<◌, Some, slice_get, arith, length, rules, ◌∙◌, ap, sym, subst, List}
+use Rattle.std.proofs.Common.{◌≡◌, ◌+◌, ◌≤◌, ◌<◌, Some, None, slice_get, arith, length, rules, ◌∙◌, ap, sym, subst, List}
 use Rattle.std.proofs.lemmas.Option.{slice_get_past}
 use Rattle.rv_devices.proofs.EntryLaws.{at_place, AreDue-next, ticks-next, latency-next}
 use Rattle.machine_model.specs.Board.{last_or, latency_by}
@@ -26,7 +26,10 @@ entries-preserved c =
     }
 
 pub returns-after-entries-clause-stops : goal.returns-after-entries-clause-stops
-returns-after-entries-clause-stops c = ?
+returns-after-entries-clause-stops c =
+    let past : length c.entries.self.entries.items ≤ c.entries.self.place = search rules in
+    let none : slice_get c.args.self.now.entries.items c.entries.self.place ≡ None = rw (← c.entries.invariant.same) (slice_get_past c.entries.self.entries.items c.entries.self.place past) in
+    rw none tt
 
 pub returns-then-step_of-step-clause-stops : goal.returns-then-step_of-step-clause-stops
 returns-then-step_of-step-clause-stops c =
