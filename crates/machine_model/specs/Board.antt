@@ -210,10 +210,11 @@ sector_words script b = words_of 128 (sector_bytes b) b.address (mark_of script 
 abbrev pub with_sector : List ℕ → BoardState → List ℕ
 with_sector ram b = placed b.bytes (512 * b.sector) (take 512 (drop (b.address - RAM_START) ram))
 
--- the disk refuses every other command
-abbrev pub is_accepted : List ℕ → ℕ → BoardState → Bool
-is_accepted ram command b =
-    (command == 1 || command == 2) && (nat_lt b.sector (sector_count b.bytes) && (b.address % 4 == 0 && in_ram (length ram) b.address 512))
+-- the disk refuses every other command, and where the sector is not there, the address is unaligned, or the bytes there
+-- are not in RAM
+abbrev pub is_accepted : (ram_size count command sector address : ℕ) → Bool
+is_accepted ram_size count command sector address =
+    (command == 1 || command == 2) && (nat_lt sector count && (address % 4 == 0 && in_ram ram_size address 512))
 
 -- a command is refused, or begun: it completes when as many steps have passed as the latency in force says
 abbrev pub busy_until : ℕ → List DmaWord → Activity
@@ -226,7 +227,8 @@ begun script step ram command b =
     else record b { activity = busy_until (step + latency script step) []; bytes = with_sector ram b }
 
 abbrev pub answered : Script → ℕ → List ℕ → ℕ → BoardState → BoardState
-answered script step ram command b = if is_accepted ram command b then begun script step ram command b else record b { activity = Refused }
+answered script step ram command b =
+    if is_accepted (length ram) (sector_count b.bytes) command b.sector b.address then begun script step ram command b else record b { activity = Refused }
 
 -- only a busy disk ignores a command
 abbrev pub is_busy : Activity → Bool
