@@ -1,3 +1,4 @@
+pub mod DiskLaws
 pub mod EntryLaws
 pub mod FollowLaws
 pub mod SendLaws

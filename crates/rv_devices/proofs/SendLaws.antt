@@ -30,6 +30,9 @@ sends_nothing t past below = record { words_are = sym (words_of-none (unsent t) 
 pub none_left : (words : List DmaWord) (t : Transfer) → 508 < t.sent → Sends words t → words ≡ []
 none_left words t past sends = sends.words_are ∙ words_of-none (unsent t) (drop t.sent t.bytes) t.address t.mark (omega arith)
 
+pub no_words : (t : Transfer) → t.sent ≡ 512 → words_left t ≡ []
+no_words t all = words_of-none (unsent t) (drop t.sent t.bytes) t.address t.mark (omega (arith, all))
+
 -- a word handed out
 abbrev pub sent_on : Transfer → Transfer
 sent_on t = record { bytes = t.bytes; sent = t.sent + 4; address = (t.address + 4) % 4294967296; mark = t.mark }

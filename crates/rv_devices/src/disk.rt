@@ -143,8 +143,8 @@ impl Disk {
                 && (self.address % 4 == 0 && ram.holds(self.address, 512)))
     }
 
-    // Keeps the words of the sector until the command completes.
-    fn read(&mut self)
+    // Begins to read: keeps the words of the sector until the command completes.
+    fn read(&mut self, before: u64)
         requires { self.old.sector < model.sector_count self.old.bytes.items }
         ensures bytes { self.new.bytes.items ≡ self.old.bytes.items }
         ensures sectors { self.new.sectors.items ≡ self.old.sectors.items }
@@ -155,6 +155,7 @@ impl Disk {
         ensures kept { self.new.pending.bytes ≡ take 512 (drop (512 * self.old.sector) self.old.bytes.items) }
         ensures sent { self.new.pending.sent ≡ 0 }
         ensures to { self.new.pending.address ≡ self.old.address }
+        ensures busy { self.new.activity ≡ Activity.Busy before }
         ensures mark { self.new.pending.mark ≡ (if list_any (model.names self.old.sector) self.old.sectors.items then 1 else 0) }
     {
         let at = SECTOR_BYTES * self.sector as usize;
@@ -163,10 +164,11 @@ impl Disk {
         self.pending.sent = 0;
         self.pending.address = self.address;
         self.pending.mark = if is_named(&self.sectors, self.sector) { 1 } else { 0 };
+        self.activity = Activity::Busy { before };
     }
 
-    // Takes the sector's bytes from RAM.
-    fn write(&mut self, ram: &Ram)
+    // Begins to write: takes the sector's bytes from RAM.
+    fn write(&mut self, before: u64, ram: &Ram)
         requires sector { self.old.sector < model.sector_count self.old.bytes.items }
         requires held { InRam (length ram.now) self.old.address 512 }
         ensures bytes { self.new.bytes.items ≡ placed self.old.bytes.items (512 * self.old.sector) (take 512 (drop (self.old.address - RAM_START) ram.now)) }
@@ -175,6 +177,7 @@ impl Disk {
         ensures address { self.new.address ≡ self.old.address }
         ensures control { self.new.control ≡ self.old.control }
         ensures sending { self.new.sending ≡ self.old.sending }
+        ensures busy { self.new.activity ≡ Activity.Busy before }
         ensures sent { self.new.pending.sent ≡ 512 }
         ensures to { self.new.pending.address ≡ self.old.address }
     {
@@ -182,6 +185,7 @@ impl Disk {
         self.bytes[at..at + SECTOR_BYTES].copy_from_slice(ram.bytes(self.address, 512));
         self.pending.sent = SECTOR_BYTES;
         self.pending.address = self.address;
+        self.activity = Activity::Busy { before };
     }
 
     /// A store to the command; one that is accepted completes before the step `before`.
@@ -197,10 +201,9 @@ impl Disk {
             return;
         }
         if command == 1 {
-            self.read();
-        } else {
-            self.write(ram);
+            self.read(before);
+            return;
         }
-        self.activity = Activity::Busy { before };
+        self.write(before, ram);
     }
 }
