@@ -1,4 +1,5 @@
 pub mod DiskLaws
+pub mod DueLaws
 pub mod EntryLaws
 pub mod FollowLaws
 pub mod SendLaws
