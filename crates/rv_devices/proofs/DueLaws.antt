@@ -4,6 +4,7 @@ use Rattle.std.specs.Prelude.{sum_by, nat_le, nat_lt, if◌then◌else◌}
 use Rattle.std.specs.Option.{option_and_then}
 use Rattle.std.specs.List.{filter_map, flat_map}
 use Rattle.std.proofs.lemmas.Bool.{cases_lt}
+use Rattle.std.proofs.lemmas.List.Sums.{sum_by-cons}
 use Rattle.machine_model.specs.Script.{Script, Entry, What, Serial, Tick, Latency}
 use Rattle.machine_model.specs.Board.{Arrival, arrivals_by, arrivals_of, arrivals, present_at, waiting, ticks_by, ticks_at, latency_by, latency_at, latency, last_or}
 use Rattle.rv_devices.specs.declared.schedule.Schedule.{Schedule}
@@ -25,7 +26,12 @@ no_ticks step (entry ∷ entries) later = rw (not_due entry.at step later.0) (no
 pub due_ticks : (step place : ℕ) (entries : List Entry) → AreDue (step + 1) place entries → AreLater (step + 1) (drop place entries) → sum_by (ticks_at step) entries ≡ ticks_before place entries
 due_ticks step zero entries due later = no_ticks step entries later
 due_ticks step (suc place) [] due later = refl
-due_ticks step (suc place) (entry ∷ entries) due later = rw (is_due entry.at step due.0) (ap (λ n. ticks_by entry.what + n) (due_ticks step place entries due.1 later))
+due_ticks step (suc place) (entry ∷ entries) due later =
+    let one : ticks_at step entry ≡ ticks_by entry.what = rw (is_due entry.at step due.0) refl in
+    sum_by-cons (ticks_at step) entry entries
+    ∙ ap (λ n. n + sum_by (ticks_at step) entries) one
+    ∙ ap (λ n. ticks_by entry.what + n) (due_ticks step place entries due.1 later)
+    ∙ sym (sum_by-cons ticks_of entry (take place entries))
 
 -- the latency in force
 no_latency : (step : ℕ) (entries : List Entry) → AreLater (step + 1) entries → filter_map (latency_at step) entries ≡ []

@@ -3,3 +3,4 @@ pub mod DueLaws
 pub mod EntryLaws
 pub mod FollowLaws
 pub mod SendLaws
+pub mod StandLaws

@@ -1,0 +1,94 @@
+-- What a board shows at a step, and what it keeps.
+use Rattle.std.proofs.Common.{◌≡◌, ℕ, ◌+◌, ◌-◌, ◌*◌, ◌/◌, ◌%◌, ◌^◌, ◌<◌, ◌≤◌, Bool, true, false, List, [], drop, refl, sym, ◌∙◌, ap, subst, arith}
+use Rattle.std.specs.Prelude.{◌&&◌, ◌||◌, ◌==◌, nat_le, nat_lt, if◌then◌else◌}
+use Rattle.std.proofs.lemmas.Nat.{div-mul-add}
+use Rattle.run_events.specs.declared.supply.DmaWord.{DmaWord}
+use Rattle.machine_model.specs.Script.{Script}
+use Rattle.machine_model.specs.Board as model
+use Rattle.machine_model.specs.Board.{BoardState, elapsed, mtime, board_lines, completed, words_before, at_step}
+use Rattle.rv_devices.specs.declared.board.Board.{Board}
+use Rattle.rv_devices.specs.declared.disk.Activity.{Activity}
+use Rattle.rv_devices.specs.declared.disk.Activity.TheVariants as code
+use Rattle.rv_devices.specs.declared.timer.Timer.{Timer}
+use Rattle.rv_devices.specs.declared.transfer.Transfer.{Transfer}
+use Rattle.rv_devices.specs.Entries.{ticks_before}
+use Rattle.rv_devices.specs.Follows.{Follows}
+use Rattle.rv_devices.specs.Serves.{Serves, NotBefore, activity_of}
+use Rattle.rv_devices.specs.Stands.{Stands, IsQuiet}
+use Rattle.rv_devices.specs.Times.{Times}
+use Rattle.rv_devices.proofs.DueLaws.{due_ticks, waits_is}
+use Rattle.rv_devices.proofs.EntryLaws.{AreDue-more, AreLater-less}
+
+-- a timer has risen by its clock as often as the steps hold its clock
+risen : (clock step ticks offset : ℕ) (t : Timer) (times : Times clock (step + 1) ticks offset t) → step / clock ≡ times.rises
+risen clock step ticks offset t times =
+    let over = step - times.rises * clock in
+    let same : step ≡ times.rises * clock + over = omega (arith, times.since) in
+    let below : over < clock = omega (arith, times.since, times.until, times.rise_is) in
+    ap (λ n. n / clock) same ∙ div-mul-add times.rises clock over below
+
+pub elapsed_is : (script : Script) (step : ℕ) (words : List DmaWord) (state : BoardState) (board : Board) (s : Stands script (step + 1) words state board) → elapsed script step ≡ s.times.rises + ticks_before board.schedule.place script.entries
+elapsed_is script step words state board s =
+    cc (risen script.clock step (ticks_before board.schedule.place script.entries) state.offset board.timer s.times, due_ticks step board.schedule.place script.entries s.follows.due s.follows.later)
+
+pub mtime_is : (script : Script) (step : ℕ) (words : List DmaWord) (state : BoardState) (board : Board) → Stands script (step + 1) words state board → mtime script step state ≡ board.timer.count
+mtime_is script step words state board s = ap (λ n. (n + state.offset) % 2 ^ 64) (elapsed_is script step words state board s) ∙ sym s.times.count_is
+
+-- the lines, as a board shows them
+pub lines_are : (script : Script) (step : ℕ) (words : List DmaWord) (state : BoardState) (board : Board) → Stands script (step + 1) words state board → board_lines script step state ≡ (if nat_le board.timer.compare board.timer.count then 1 else 0) + (if (nat_lt board.schedule.source board.schedule.place && board.serial_control == 1) || (nat_le 2 (model.status_of (activity_of board.disk.activity board.disk.pending)) && board.disk.control == 1) then 2 else 0)
+lines_are script step words state board s =
+    let time = mtime_is script step words state board s in
+    let waits = waits_is script step state.taken board.schedule s.follows in
+    rw (time, waits, s.compare_is, s.serial_is, s.serves.activity_is, s.serves.control_is) refl
+
+-- where no command completes
+not_completed : (step quiet : ℕ) (a : Activity) (pending : Transfer) → NotBefore quiet a → step < quiet → completed step (activity_of a pending) ≡ ([], activity_of a pending)
+not_completed step quiet code.Idle pending far below = refl
+not_completed step quiet (code.Busy before) pending far below = let t : nat_le before step ≡ false = grind (arith, far, below) in rw t refl
+not_completed step quiet code.Done pending far below = refl
+not_completed step quiet code.Refused pending far below = refl
+
+still : (script : Script) (step begun : ℕ) (words : List DmaWord) (state : BoardState) (board : Board) → Stands script begun words state board → step < board.quiet → completed step state.activity ≡ ([], state.activity)
+still script step begun words state board s below = subst (λ a. completed step a ≡ ([], a)) s.serves.activity_is (not_completed step board.quiet board.disk.activity board.disk.pending s.is_quiet.disk below)
+
+pub no_words_before : (script : Script) (step begun : ℕ) (words : List DmaWord) (state : BoardState) (board : Board) → Stands script begun words state board → step < board.quiet → words_before step state ≡ []
+no_words_before script step begun words state board s below = ap (λ p. p.0) (still script step begun words state board s below)
+
+pub same_state : (script : Script) (step begun : ℕ) (words : List DmaWord) (state : BoardState) (board : Board) → Stands script begun words state board → step < board.quiet → at_step step state ≡ state
+same_state script step begun words state board s below = ap (λ p. record state { activity = p.1 }) (still script step begun words state board s below)
+
+-- a step before which nothing falls due
+pub quiet_step : (script : Script) (step : ℕ) (state : BoardState) (board : Board) → Stands script step [] state board → step < board.quiet → Stands script (step + 1) [] state (record board { begun = step + 1 })
+quiet_step script step state board s below = record {
+  playable = s.playable;
+  begun_is = refl;
+  follows = record {
+    entries_are = s.follows.entries_are;
+    due = AreDue-more step (step + 1) board.schedule.place script.entries (omega arith) s.follows.due;
+    later = AreLater-less (step + 1) board.quiet (drop board.schedule.place script.entries) (omega (arith, below)) s.is_quiet.entries_later;
+    latency_is = s.follows.latency_is;
+    within = s.follows.within;
+    left = s.follows.left;
+    clear = s.follows.clear;
+    fresh = s.follows.fresh;
+  };
+  times = record {
+    rises = s.times.rises;
+    clock_is = s.times.clock_is;
+    rise_is = s.times.rise_is;
+    since = omega (arith, s.times.since);
+    until = omega (arith, below, s.is_quiet.timer);
+    count_is = s.times.count_is;
+  };
+  compare_is = s.compare_is;
+  serial_is = s.serial_is;
+  serves = s.serves;
+  is_quiet = s.is_quiet;
+}
+
+-- an earlier step
+pub NotBefore-less : (low high : ℕ) (a : Activity) → low ≤ high → NotBefore high a → NotBefore low a
+NotBefore-less low high code.Idle less far = tt
+NotBefore-less low high (code.Busy before) less far = omega (arith, far, less)
+NotBefore-less low high code.Done less far = tt
+NotBefore-less low high code.Refused less far = tt
