@@ -1,7 +1,8 @@
 -- What a board shows at a step, and what it keeps.
-use Rattle.std.proofs.Common.{◌≡◌, ℕ, ◌+◌, ◌-◌, ◌*◌, ◌/◌, ◌%◌, ◌^◌, ◌<◌, ◌≤◌, Bool, true, false, List, [], drop, refl, sym, ◌∙◌, ap, subst, arith}
+use Rattle.std.proofs.Common.{◌≡◌, ℕ, ◌+◌, ◌-◌, ◌*◌, ◌/◌, ◌%◌, ◌^◌, ◌<◌, ◌≤◌, Bool, true, false, List, [], Some, drop, refl, sym, ◌∙◌, ap, subst, arith}
 use Rattle.std.specs.Prelude.{◌&&◌, ◌||◌, ◌==◌, nat_le, nat_lt, if◌then◌else◌}
 use Rattle.std.proofs.lemmas.Nat.{div-mul-add}
+use Rattle.memory_map.specs.declared.TheConstants.{SERIAL_DATA}
 use Rattle.run_events.specs.declared.supply.DmaWord.{DmaWord}
 use Rattle.machine_model.specs.Script.{Script}
 use Rattle.machine_model.specs.Board as model
@@ -9,9 +10,11 @@ use Rattle.machine_model.specs.Board.{BoardState, elapsed, mtime, board_lines, c
 use Rattle.rv_devices.specs.declared.board.Board.{Board}
 use Rattle.rv_devices.specs.declared.disk.Activity.{Activity}
 use Rattle.rv_devices.specs.declared.disk.Activity.TheVariants as code
+use Rattle.rv_devices.specs.declared.disk.Disk.{Disk}
+use Rattle.rv_devices.specs.declared.schedule.Schedule.{Schedule}
 use Rattle.rv_devices.specs.declared.timer.Timer.{Timer}
 use Rattle.rv_devices.specs.declared.transfer.Transfer.{Transfer}
-use Rattle.rv_devices.specs.Entries.{ticks_before}
+use Rattle.rv_devices.specs.Entries.{AreLater, ticks_before}
 use Rattle.rv_devices.specs.Follows.{Follows}
 use Rattle.rv_devices.specs.Serves.{Serves, NotBefore, activity_of}
 use Rattle.rv_devices.specs.Stands.{Stands, IsQuiet}
@@ -58,10 +61,11 @@ pub same_state : (script : Script) (step begun : ℕ) (words : List DmaWord) (st
 same_state script step begun words state board s below = ap (λ p. record state { activity = p.1 }) (still script step begun words state board s below)
 
 -- a step before which nothing falls due
-pub quiet_step : (script : Script) (step : ℕ) (state : BoardState) (board : Board) → Stands script step [] state board → step < board.quiet → Stands script (step + 1) [] state (record board { begun = step + 1 })
-quiet_step script step state board s below = record {
+pub quiet_step : (script : Script) (step : ℕ) (state : BoardState) (board : Board) → Stands script step [] state board → step < board.quiet → step + 1 ≤ 2 ^ 32 → Stands script (step + 1) [] state (record board { begun = step + 1 })
+quiet_step script step state board s below numbered = record {
   playable = s.playable;
   begun_is = refl;
+  numbered = numbered;
   follows = record {
     entries_are = s.follows.entries_are;
     due = AreDue-more step (step + 1) board.schedule.place script.entries (omega arith) s.follows.due;
@@ -83,7 +87,7 @@ quiet_step script step state board s below = record {
   compare_is = s.compare_is;
   serial_is = s.serial_is;
   serves = s.serves;
-  is_quiet = s.is_quiet;
+  is_quiet = record { timer = s.is_quiet.timer; entries_later = s.is_quiet.entries_later; disk = s.is_quiet.disk };
 }
 
 -- an earlier step
@@ -92,3 +96,79 @@ NotBefore-less low high code.Idle less far = tt
 NotBefore-less low high (code.Busy before) less far = omega (arith, far, less)
 NotBefore-less low high code.Done less far = tt
 NotBefore-less low high code.Refused less far = tt
+
+pub NotBefore-zero : (a : Activity) → NotBefore 0 a
+NotBefore-zero code.Idle = tt
+NotBefore-zero (code.Busy before) = omega arith
+NotBefore-zero code.Done = tt
+NotBefore-zero code.Refused = tt
+
+-- the disk does not look at the serial line and the timer
+served : (script : Script) (words : List DmaWord) (state : BoardState) (disk : Disk) (taken offset : ℕ) → Serves script words state disk → Serves script words (record state { taken = taken; offset = offset }) disk
+served script words state disk taken offset s = record {
+  bytes_are = s.bytes_are;
+  small = s.small;
+  sectors_are = s.sectors_are;
+  sector_is = s.sector_is;
+  address_is = s.address_is;
+  control_is = s.control_is;
+  activity_is = s.activity_is;
+  below = s.below;
+  sending = s.sending;
+}
+
+-- a value that the timer is set to
+set_to : (elapsed value : ℕ) → value < 2 ^ 64 → value ≡ (elapsed + (value + (2 ^ 64 - elapsed % 2 ^ 64)) % 2 ^ 64) % 2 ^ 64
+set_to elapsed value below = omega (arith, below)
+
+pub time_set : (script : Script) (step : ℕ) (words : List DmaWord) (state : BoardState) (board : Board) (value : ℕ) → Stands script (step + 1) words state board → value < 2 ^ 64 → Stands script (step + 1) words (record state { offset = model.offset_for script step value }) (record board { timer = record board.timer { count = value } })
+time_set script step words state board value s below = record {
+  playable = s.playable;
+  begun_is = s.begun_is;
+  numbered = s.numbered;
+  follows = s.follows;
+  times = record {
+    rises = s.times.rises;
+    clock_is = s.times.clock_is;
+    rise_is = s.times.rise_is;
+    since = s.times.since;
+    until = s.times.until;
+    count_is =
+      set_to (s.times.rises + ticks_before board.schedule.place script.entries) value below
+      ∙ ap (λ n. (s.times.rises + ticks_before board.schedule.place script.entries + (value + (2 ^ 64 - n % 2 ^ 64)) % 2 ^ 64) % 2 ^ 64) (sym (elapsed_is script step words state board s));
+  };
+  compare_is = s.compare_is;
+  serial_is = s.serial_is;
+  serves = served script words state board.disk state.taken (model.offset_for script step value) s.serves;
+  is_quiet = record { timer = s.is_quiet.timer; entries_later = s.is_quiet.entries_later; disk = s.is_quiet.disk };
+}
+
+-- a load of the serial data
+one_more : (waits : Bool) (state : BoardState) → (if waits then record state { taken = state.taken + 1 } else state) ≡ record state { taken = if waits then state.taken + 1 else state.taken }
+one_more true state = refl
+one_more false state = refl
+
+pub loaded : (script : Script) (step : ℕ) (words : List DmaWord) (state : BoardState) (board : Board) (schedule : Schedule) → Stands script (step + 1) words state board → Follows script.entries (step + 1) (if nat_lt board.schedule.source board.schedule.place then state.taken + 1 else state.taken) schedule → schedule.place ≡ board.schedule.place → Stands script (step + 1) words (model.after_load script step state SERIAL_DATA) (record board { schedule = schedule })
+loaded script step words state board schedule s follows place =
+    let waits : model.waits script step state ≡ nat_lt board.schedule.source board.schedule.place = waits_is script step state.taken board.schedule s.follows in
+    let more : model.after_load script step state SERIAL_DATA ≡ record state { taken = if nat_lt board.schedule.source board.schedule.place then state.taken + 1 else state.taken } =
+        ap (λ b. if b then record state { taken = state.taken + 1 } else state) waits ∙ one_more (nat_lt board.schedule.source board.schedule.place) state in
+    subst (λ b. Stands script (step + 1) words b (record board { schedule = schedule })) (sym more) (record {
+      playable = s.playable;
+      begun_is = s.begun_is;
+      numbered = s.numbered;
+      follows = follows;
+      times = subst (λ n. Times script.clock (step + 1) (ticks_before n script.entries) state.offset board.timer) (sym place) s.times;
+      compare_is = s.compare_is;
+      serial_is = s.serial_is;
+      serves = served script words state board.disk (if nat_lt board.schedule.source board.schedule.place then state.taken + 1 else state.taken) state.offset s.serves;
+      is_quiet = record {
+        timer = s.is_quiet.timer;
+        entries_later = subst (λ n. AreLater board.quiet (drop n script.entries)) (sym place) s.is_quiet.entries_later;
+        disk = s.is_quiet.disk;
+      };
+    })
+
+-- the serial data is at its address alone
+pub not_data : (address : ℕ) → (address ≡ SERIAL_DATA → ⊥) → model.register_at address ≡ Some model.SerialData → ⊥
+not_data address other is = grind (arith, other, is)

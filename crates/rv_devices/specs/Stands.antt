@@ -1,5 +1,5 @@
 -- What a board stands for.
-use Rattle.std.specs.Prelude.{◌≡◌, ℕ, ◌≤◌, List, drop}
+use Rattle.std.specs.Prelude.{◌≡◌, ℕ, ◌^◌, ◌≤◌, List, drop}
 use Rattle.run_events.specs.declared.supply.DmaWord.{DmaWord}
 use Rattle.machine_model.specs.Script.{Script, Entry}
 use Rattle.machine_model.specs.Board.{BoardState, IsPlayable}
@@ -27,6 +27,7 @@ pub record IsQuiet (entries : List Entry) (board : Board) : Type 0 where
 pub record Stands (script : Script) (begun : ℕ) (words : List DmaWord) (state : BoardState) (board : Board) : Type 0 where
   pub playable : IsPlayable script
   pub begun_is : board.begun ≡ begun
+  pub numbered : begun ≤ 2 ^ 32
   pub follows : Follows script.entries begun state.taken board.schedule
   pub times : Times script.clock begun (ticks_before board.schedule.place script.entries) state.offset board.timer
   pub compare_is : board.timer.compare ≡ state.compare

@@ -50,6 +50,13 @@ fn either(first: bool, second: bool) -> bool
     first || second
 }
 
+// The serial status: bit 0 where a byte waits, and bit 1.
+fn serial_status(waits: bool) -> u32
+    ensures { result ≡ (if waits then 3 else 2) }
+{
+    if waits { 3 } else { 2 }
+}
+
 // What a store to a register does outside the board.
 fn effect(register: Register, value: u32) -> Effect
     ensures { result ≡ effect_by value (named register) }
@@ -173,13 +180,7 @@ impl Board {
             Register::CompareHigh => high_half(self.timer.compare),
             Register::TimeLow => low_half(self.timer.count),
             Register::TimeHigh => high_half(self.timer.count),
-            Register::SerialStatus => {
-                if self.schedule.waits() {
-                    3
-                } else {
-                    2
-                }
-            }
+            Register::SerialStatus => serial_status(self.schedule.waits()),
             Register::SerialControl => self.serial_control,
             Register::DiskSector => self.disk.sector,
             Register::DiskAddress => self.disk.address,
@@ -209,10 +210,11 @@ impl Board {
 
     // A store to the command of the disk.
     fn command(&mut self, command: u32, ram: &Ram)
-        requires { length ram.now ≤ 2 ^ 24 }
+        requires begun { 1 ≤ self.old.begun }
+        requires ram { length ram.now ≤ 2 ^ 24 }
         ensures { (script : Outside) (step : ℕ) (words : List DmaWord) (state : BoardState) → Stands script (step + 1) words state self.old → Stands script (step + 1) words (model.commanded script step ram.now command state) self.new }
     {
-        let before = (self.begun - 1) + u64::from(self.schedule.latency);
+        let before = (self.begun - 1).wrapping_add(u64::from(self.schedule.latency));
         self.disk.command(command, before, ram);
         self.quiet = self.quiet.min(self.disk.due());
     }

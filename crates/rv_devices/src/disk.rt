@@ -134,7 +134,8 @@ impl Disk {
 
     /// A store to the status.
     pub fn acknowledge(&mut self)
-        ensures { (script : Script) (words : List DmaWord) (state : BoardState) → Serves script words state self.old → Serves script words (record state { activity = model.acknowledged state.activity }) self.new }
+        ensures quiet { (step : ℕ) → NotBefore step self.old.activity → NotBefore step self.new.activity }
+        ensures serves { (script : Script) (words : List DmaWord) (state : BoardState) → Serves script words state self.old → Serves script words (record state { activity = model.acknowledged state.activity }) self.new }
     {
         match self.activity {
             Activity::Busy { .. } => {}

@@ -20,6 +20,7 @@ returns c = λ script state stands.
     record {
       playable = stands.playable;
       begun_is = ap (λ n. n + 1) c.from.ensures;
+      numbered = omega arith;
       follows = follows;
       times = c.pulse.ensures.times script.clock (step + 1) before after state.offset ticks (c.advance.ensures.times script.clock before state.offset stands.playable.clock stands.times);
       compare_is = c.pulse.ensures.compare ∙ c.advance.ensures.compare ∙ stands.compare_is;
