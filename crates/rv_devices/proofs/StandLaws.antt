@@ -172,3 +172,30 @@ loaded script step words state board schedule s follows place =
 -- the serial data is at its address alone
 pub not_data : (address : ℕ) → (address ≡ SERIAL_DATA → ⊥) → model.register_at address ≡ Some model.SerialData → ⊥
 not_data address other is = grind (arith, other, is)
+
+-- a command changes the disk alone
+keeps : (f : BoardState → ℕ) (busy accepted reads : Bool) (same read write refused : BoardState) (v : ℕ) → f same ≡ v → f read ≡ v → f write ≡ v → f refused ≡ v → f (if busy then same else (if accepted then (if reads then read else write) else refused)) ≡ v
+keeps f true accepted reads same read write refused v a b c d = a
+keeps f false true true same read write refused v a b c d = b
+keeps f false true false same read write refused v a b c d = c
+keeps f false false reads same read write refused v a b c d = d
+
+commanded_keeps : (f : BoardState → ℕ) (script : Script) (step : ℕ) (ram : List ℕ) (command : ℕ) (b : BoardState) → ((activity : model.Activity) (bytes : List ℕ) → f (record b { activity = activity; bytes = bytes }) ≡ f b) → f (model.commanded script step ram command b) ≡ f b
+commanded_keeps f script step ram command b same = keeps f (model.is_busy b.activity) _ (command == 1) b _ _ _ (f b) refl (same _ b.bytes) (same _ (model.with_sector ram b)) (same model.Refused b.bytes)
+
+pub commanded_stands : (script : Script) (step : ℕ) (words : List DmaWord) (state : BoardState) (board : Board) (ram : List ℕ) (command quiet : ℕ) (disk : Disk) → Stands script (step + 1) words state board → Serves script words (model.commanded script step ram command state) disk → quiet ≤ board.quiet → NotBefore quiet disk.activity → Stands script (step + 1) words (model.commanded script step ram command state) (record board { quiet = quiet; disk = disk })
+commanded_stands script step words state board ram command quiet disk s serves less far = record {
+  playable = s.playable;
+  begun_is = s.begun_is;
+  numbered = s.numbered;
+  follows = subst (λ n. Follows script.entries (step + 1) n board.schedule) (sym (commanded_keeps (λ (b : BoardState). b.taken) script step ram command state (λ _ _. refl))) s.follows;
+  times = subst (λ n. Times script.clock (step + 1) (ticks_before board.schedule.place script.entries) n board.timer) (sym (commanded_keeps (λ (b : BoardState). b.offset) script step ram command state (λ _ _. refl))) s.times;
+  compare_is = s.compare_is ∙ sym (commanded_keeps (λ (b : BoardState). b.compare) script step ram command state (λ _ _. refl));
+  serial_is = s.serial_is ∙ sym (commanded_keeps (λ (b : BoardState). b.serial_control) script step ram command state (λ _ _. refl));
+  serves = serves;
+  is_quiet = record {
+    timer = omega (arith, s.is_quiet.timer, less);
+    entries_later = AreLater-less quiet board.quiet (drop board.schedule.place script.entries) less s.is_quiet.entries_later;
+    disk = far;
+  };
+}

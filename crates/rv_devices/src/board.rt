@@ -214,7 +214,7 @@ impl Board {
         requires ram { length ram.now ≤ 2 ^ 24 }
         ensures { (script : Outside) (step : ℕ) (words : List DmaWord) (state : BoardState) → Stands script (step + 1) words state self.old → Stands script (step + 1) words (model.commanded script step ram.now command state) self.new }
     {
-        let before = (self.begun - 1).wrapping_add(u64::from(self.schedule.latency));
+        let before = (self.begun - 1).wrapping_add(u64::from(self.schedule.latency()));
         self.disk.command(command, before, ram);
         self.quiet = self.quiet.min(self.disk.due());
     }

@@ -166,6 +166,13 @@ impl Schedule {
         }
     }
 
+    /// The latency in force.
+    pub fn latency(&self) -> u32
+        ensures { result ≡ self.now.latency }
+    {
+        self.latency
+    }
+
     /// Whether a serial byte waits.
     pub fn waits(&self) -> bool
         ensures { result ≡ nat_lt self.now.source self.now.place }
