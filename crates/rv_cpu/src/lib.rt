@@ -1,8 +1,4 @@
-//! The hart: one step at a time over its own RAM, with no device behind it.
+//! The hart: RV32IMA in machine mode, one step at a time over its own RAM, with no device behind it.
 #![tactic(auto)]
 
-mod cpu;
-mod execute;
-mod rv_decode;
-
-pub use cpu::{Cpu, Supplied};
+mod alu;
