@@ -3,6 +3,7 @@
 
 mod access;
 mod event;
+mod fault;
 mod finding;
 mod record;
 mod shared;
@@ -11,6 +12,7 @@ mod watcher;
 
 pub use access::{Access, Told};
 pub use event::Event;
+pub use fault::{Diverged, Why};
 pub use finding::{Finding, FindingKind, Kind};
 pub use record::{EndCause, Record};
 pub use supply::{DmaWord, Need, Supplied};

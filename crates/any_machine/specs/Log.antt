@@ -1,0 +1,82 @@
+-- The log of a run, its items and its output, read off the finished run.
+use Rattle.std.proofs.Common.{suc}
+use Rattle.std.specs.Prelude.{ℕ, ◌-◌, ◌%◌, ◌||◌, ◌==◌, List, [], ◌∷◌, ◌++◌, map, Option, None, Some, is_some, if◌then◌else◌}
+use Rattle.std.specs.Option.{option_map}
+use Rattle.std.specs.List.{filter_map}
+use Rattle.run_events.specs.declared.event.Event.{Event}
+use Rattle.run_events.specs.declared.record.Record.{Record}
+use Rattle.run_events.specs.declared.record.Record.TheVariants.{Load, Lines, Dma, Reach, End}
+use Rattle.run_events.specs.declared.supply.DmaWord.{DmaWord}
+use Rattle.run_events.specs.declared.supply.Supplied.{Supplied}
+use Rattle.run_events.specs.Event.{step_of}
+use Rattle.run_events.specs.Record.{number}
+use Rattle.any_machine.specs.Machine.{Turn, serial_byte}
+use Rattle.any_machine.specs.Run.{Finished}
+
+-- a record, and the byte of output whose step it says is done
+pub record Item : Type 0 where
+  pub item : Record
+  pub byte : Option ℕ
+
+-- The records of step n: each of its words; its lines, where they differ from those held before; what a device register
+-- gave; and that it is done, where it sent a byte or its number plus 1 is a multiple of 256.
+abbrev pub word_record : ℕ → DmaWord → Record
+word_record n word = Dma n word.address word.word word.mark
+
+abbrev pub lines_records : ℕ → ℕ → ℕ → List Record
+lines_records n held lines = if lines == held then [] else Lines n lines ∷ []
+
+abbrev pub load_records : ℕ → Option Supplied → List Record
+load_records n None = []
+load_records n (Some supplied) = Load n supplied.value supplied.mark ∷ []
+
+abbrev pub reach_records : ℕ → Event → List Record
+reach_records n event = if is_some (serial_byte event) || suc n % 256 == 0 then Reach (suc n) ∷ [] else []
+
+abbrev pub turn_records : ℕ → ℕ → Turn → List Record
+turn_records n held turn =
+    map (word_record n) turn.input.words ++ (lines_records n held turn.input.lines ++ (load_records n turn.input.supplied ++ reach_records n turn.event))
+
+-- the records of the turns from step n on, before which these lines were held
+abbrev pub turns_log : ℕ → ℕ → List Turn → List Record
+turns_log n held [] = []
+turns_log n held (turn ∷ turns) = turn_records n held turn ++ turns_log (suc n) turn.input.lines turns
+
+-- the log of a run
+abbrev pub log : Finished → List Record
+log run = turns_log 0 0 run.turns ++ End run.steps run.cause ∷ []
+
+-- the same records as a recorder hands them out, where a Reach lets the byte go that its step sent
+abbrev pub plain_item : Record → Item
+plain_item item = record { item = item; byte = None }
+
+abbrev pub reach_items : ℕ → Event → List Item
+reach_items n event = if is_some (serial_byte event) || suc n % 256 == 0 then record { item = Reach (suc n); byte = serial_byte event } ∷ [] else []
+
+abbrev pub input_records : ℕ → ℕ → Turn → List Record
+input_records n held turn = map (word_record n) turn.input.words ++ (lines_records n held turn.input.lines ++ load_records n turn.input.supplied)
+
+abbrev pub turn_items : ℕ → ℕ → Turn → List Item
+turn_items n held turn = map plain_item (input_records n held turn) ++ reach_items n turn.event
+
+abbrev pub turns_items : ℕ → ℕ → List Turn → List Item
+turns_items n held [] = []
+turns_items n held (turn ∷ turns) = turn_items n held turn ++ turns_items (suc n) turn.input.lines turns
+
+-- the items from step n on, before which these lines were held, up to the end
+abbrev pub items_from : ℕ → ℕ → Finished → List Item
+items_from n held run = turns_items n held run.turns ++ plain_item (End run.steps run.cause) ∷ []
+
+abbrev pub items : Finished → List Item
+items run = items_from 0 0 run
+
+-- the byte that an item lets go, with its step, which is the last one before the item's number
+abbrev pub byte_of : Item → Option (ℕ × ℕ)
+byte_of item = option_map (λ byte. (number item.item - 1, byte)) item.byte
+
+abbrev pub bytes_of : List Item → List (ℕ × ℕ)
+bytes_of items = filter_map byte_of items
+
+-- the output of a list of events: the bytes that go out on the serial line, each with its step
+abbrev pub output : List Event → List (ℕ × ℕ)
+output events = filter_map (λ event. option_map (λ byte. (step_of event, byte)) (serial_byte event)) events
