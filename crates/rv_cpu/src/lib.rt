@@ -1,4 +1,13 @@
 //! The hart: RV32IMA in machine mode, one step at a time over its own RAM, with no device behind it.
 #![tactic(auto)]
 
+mod accesses;
 mod alu;
+mod atomics;
+mod done;
+mod engine;
+mod execute;
+mod moves;
+mod plain;
+mod step;
+mod system;
