@@ -1,5 +1,7 @@
+pub mod Aligned
 pub mod Effect
 pub mod Fetch
+pub mod Machine
 pub mod Operations
 pub mod State
 pub mod Step
