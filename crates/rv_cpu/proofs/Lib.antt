@@ -1,1 +1,2 @@
 pub mod MidwayLaws
+pub mod NeedLaws

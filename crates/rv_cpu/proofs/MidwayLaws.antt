@@ -37,3 +37,10 @@ pub plain_end : (s : State) (word : ℕ) (i : Instr) (o : Outcome) (told : Told)
 plain_end s word i o told m x done before end =
     let whole : closed told word m ≡ closed (told_by s.registers) word (executed_plainly s i o) = cc in
     chosen_some (is_plain_instr i && is_plain_outcome o) x (step_by s word o) (sym end ∙ whole ∙ closed_plainly s word i o)
+
+-- what the end of an instruction gives is its step
+pub whole_end : (s : State) (word : ℕ) (o : Outcome) (told : Told) (m : Midway) (x : Event × State) → m ≡ midway s o → told ≡ told_by s.registers → closed told word m ≡ Some x → step_by s word o ≡ x
+whole_end s word o told m x done before end =
+    let whole : closed told word m ≡ closed (told_by s.registers) word (midway s o) = cc in
+    let same : Some x ≡ Some (step_by s word o) = sym end ∙ whole ∙ closed_midway s word o in
+    cc

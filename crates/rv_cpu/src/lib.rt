@@ -8,6 +8,7 @@ mod done;
 mod engine;
 mod execute;
 mod moves;
+mod need;
 mod plain;
 mod step;
 mod system;
