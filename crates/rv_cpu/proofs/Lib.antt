@@ -1,2 +1,2 @@
+pub mod CpuLaws
 pub mod MidwayLaws
-pub mod NeedLaws

@@ -1,3 +1,2 @@
 pub mod Midway
-pub mod Need
 pub mod Plain

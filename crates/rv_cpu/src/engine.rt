@@ -28,7 +28,21 @@ impl Model for Engine {
 
 impl Engine {
     ghost use Rattle.hart_model.specs.Operations.{sum};
-    ghost use Rattle.hart_model.specs.State.{register, taken, told_by, with_register};
+    ghost use Rattle.hart_model.specs.State.{register, reset_state, taken, told_by, with_register};
+
+    /// The hart at step 0.
+    pub fn new(ram: Ram, entry: u32) -> Engine
+        ensures { result ≡ reset_state ram entry }
+    {
+        Engine {
+            registers: [0; 32],
+            pc: entry,
+            csrs: Csrs::new(),
+            ram,
+            reserved: None,
+            steps: 0,
+        }
+    }
 
     /// What a register holds.
     #[inline(always)]

@@ -4,6 +4,7 @@
 mod accesses;
 mod alu;
 mod atomics;
+mod cpu;
 mod done;
 mod engine;
 mod execute;
@@ -12,3 +13,5 @@ mod need;
 mod plain;
 mod step;
 mod system;
+
+pub use cpu::Cpu;

@@ -1,9 +1,9 @@
 //! What a step has to be given.
-ghost use Rattle.std.specs.Prelude.{◌≡◌, ℕ, None};
+ghost use Rattle.std.specs.Prelude.{◌≡◌};
 ghost use Rattle.rv_decode.specs.Valid.{IsValid};
-ghost use Rattle.hart_model.specs.Effect.{loading};
+ghost use Rattle.hart_model.specs.Needs.{need_at, need_by};
+ghost use Rattle.hart_model.specs.Operations.{load_width};
 ghost use Rattle.hart_model.specs.Step.{needs};
-ghost use Rattle.rv_cpu.specs.Need.{need_of_instr, need_of_outcome};
 
 use crate::accesses::is_aligned;
 use crate::alu;
@@ -16,7 +16,7 @@ use rv_decode::{Instr, LoadOp, decode};
 impl Engine {
     // What a load has to be given.
     fn need_of_load(&self, op: LoadOp, address: u32) -> Need
-        ensures { (size rd : ℕ) → result ≡ need_of_outcome (loading self.now None size op rd address) }
+        ensures { result ≡ need_at self.now address (load_width op) }
     {
         let width = alu::load_width(op);
         if is_aligned(address, width) && !self.ram.holds(address, width) && is_device(address) {
@@ -27,9 +27,9 @@ impl Engine {
     }
 
     // What an instruction has to be given.
-    fn need_of_instr(&self, size: u32, instr: Instr) -> Need
+    fn need_of_instr(&self, instr: Instr) -> Need
         requires { IsValid instr }
-        ensures { result ≡ need_of_instr self.now size instr }
+        ensures { result ≡ need_by self.now instr }
     {
         match instr {
             Instr::Load { op, rs1, imm, .. } => {
@@ -40,7 +40,7 @@ impl Engine {
     }
 
     /// What the next step, with these interrupt lines, has to be given.
-    #[tactic(auto, using(crate::proofs::NeedLaws::need_by), unfolding(hart_model::specs::Step::cpu))]
+    #[tactic(auto, using(hart_model::proofs::NeedLaws::need_by_is, hart_model::proofs::NeedLaws::raises_needs), unfolding(hart_model::specs::Step::cpu))]
     pub fn next_need(&self, lines: u8) -> Need
         ensures { result ≡ needs self.now lines }
     {
@@ -49,7 +49,7 @@ impl Engine {
         }
         let word = self.ram.load(self.pc, SIZE);
         match decode(word) {
-            Some(instr) => self.need_of_instr(SIZE, instr),
+            Some(instr) => self.need_of_instr(instr),
             None => Need::Nothing,
         }
     }
