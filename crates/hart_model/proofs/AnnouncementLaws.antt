@@ -49,4 +49,4 @@ gathered word (Raises cause value) quiet = tt
 pub announcement_quiet : (s : State) (lines : ℕ) (supplied : Option Supplied) (word size : ℕ) (i : Instr) → instruction word ≡ Some i → IsQuietAnnouncement word (outcome s lines supplied word size i)
 announcement_quiet s lines supplied word size i reads =
     gathered word _ (λ k announces.
-      subst (λ j. IsQuiet (outcome s lines supplied word size j)) (sym (the_slti word k i announces reads)) (slti_quiet s lines supplied word size k))
+    subst (λ j. IsQuiet (outcome s lines supplied word size j)) (sym (the_slti word k i announces reads)) (slti_quiet s lines supplied word size k))

@@ -4,7 +4,7 @@ use Rattle.any_machine.specs.Machine.{CountsSteps}
 use Rattle.run_events.specs.Event.{step_of}
 use Rattle.run_events.specs.declared.event.Event.{Event}
 use Rattle.run_events.specs.declared.supply.Supplied.{Supplied}
-use Rattle.hart_model.proofs.StepCases.{Cases, each_step}
+use Rattle.hart_model.proofs.StepCases.{each_step}
 use Rattle.hart_model.specs.Effect.{Outcome, Does, Raises}
 use Rattle.hart_model.specs.Machine.{hart}
 use Rattle.hart_model.specs.State.{State}

@@ -1,12 +1,11 @@
 -- What a step needs is read off its instruction, and does not depend on what it is given.
-use Rattle.std.proofs.Common.{◌≡◌, ℕ, ◌%◌, nat_eq, Bool, true, false, length, Option, None, Some, refl, sym, ◌∙◌, ap}
+use Rattle.std.proofs.Common.{◌≡◌, ℕ, ◌%◌, nat_eq, Bool, true, false, length, Option, None, Some, refl, sym, ◌∙◌}
 use Rattle.std.specs.Prelude.{if◌then◌else◌}
 use Rattle.memory_map.specs.Device.{is_device}
 use Rattle.memory_map.specs.Ram.{in_ram}
 use Rattle.run_events.specs.declared.access.Access.TheVariants as access
-use Rattle.run_events.specs.declared.event.Event.{Event}
 use Rattle.run_events.specs.declared.supply.Need.{Need}
-use Rattle.run_events.specs.declared.supply.Need.TheVariants.{Load, Nothing}
+use Rattle.run_events.specs.declared.supply.Need.TheVariants.{Nothing}
 use Rattle.run_events.specs.declared.supply.Supplied.{Supplied}
 use Rattle.rv_csr.specs.declared.csrs.Csrs.{Csrs}
 use Rattle.rv_csr.specs.Traps.{pending}
@@ -43,7 +42,7 @@ none false x y first second = second
 module _ (s : State) (size : ℕ) where
   accessing_none : (address width misaligned : ℕ) (x y : Outcome) → needed x ≡ Nothing → needed y ≡ Nothing → needed (Effect.accessing s address width misaligned x y) ≡ Nothing
   accessing_none address width misaligned x y first second =
-    none (nat_eq (address % width) 0) _ _ (none (in_ram (length s.ram) address width) x y first second) refl
+      none (nat_eq (address % width) 0) _ _ (none (in_ram (length s.ram) address width) x y first second) refl
 
   reserved_none : (rd value address : ℕ) → needed (Does (Effect.storing_reserved s size rd value address)) ≡ Nothing
   reserved_none rd value address = by_reservation (Effect.is_reserved s.reservation address)
@@ -73,10 +72,10 @@ module _ (s : State) (size : ℕ) where
 
   loading_needed : (supplied : Option Supplied) (op : LoadOp) (rd address : ℕ) → needed (Effect.loading s supplied size op rd address) ≡ need_at s address (load_width op)
   loading_needed supplied op rd address =
-    chosen (nat_eq (address % load_width op) 0) _ _ _ _
-    (chosen (in_ram (length s.ram) address (load_width op)) (Effect.loading_ram s size op rd address) (Effect.loading_device s supplied size op rd address) Nothing _ refl
-    (chosen (is_device address) _ _ _ _ refl refl))
-    refl
+      chosen (nat_eq (address % load_width op) 0) _ _ _ _
+      (chosen (in_ram (length s.ram) address (load_width op)) (Effect.loading_ram s size op rd address) (Effect.loading_device s supplied size op rd address) Nothing _ refl
+      (chosen (is_device address) _ _ _ _ refl refl))
+      refl
 
   kept_none : (word rd old : ℕ) (kept : Option Csrs) → needed (Effect.csr_kept s size word rd old kept) ≡ Nothing
   kept_none word rd old None = refl

@@ -1,5 +1,5 @@
 -- What each instruction's outcome keeps: instructions begin where they can, and an access of RAM stays inside it.
-use Rattle.std.proofs.Common.{◌≡◌, ℕ, ◌+◌, ◌-◌, ◌%◌, ◌^◌, nat_eq, Bool, true, false, List, length, Option, None, Some, refl, inl, inr, arith}
+use Rattle.std.proofs.Common.{◌≡◌, ℕ, ◌%◌, nat_eq, Bool, true, false, length, Option, None, Some, refl, inl, inr, arith}
 use Rattle.std.specs.Prelude.{if◌then◌else◌}
 use Rattle.memory_map.specs.Ram.{InRam, IsWidth, in_ram}
 use Rattle.memory_map.specs.Device.{is_device}
@@ -23,7 +23,7 @@ use Rattle.hart_model.specs.Effect
 use Rattle.hart_model.specs.Effect.{Effect, Outcome, Does, Raises}
 use Rattle.hart_model.specs.Fetch.{grain}
 use Rattle.hart_model.specs.Aligned.{IsAligned}
-use Rattle.hart_model.specs.Operations.{bits, sum, load_width, store_width, csr_result, reads_csr, writes_csr, is_taken}
+use Rattle.hart_model.specs.Operations.{sum, load_width, store_width, csr_result, writes_csr, is_taken}
 use Rattle.hart_model.specs.State.{State, register}
 use Rattle.hart_model.specs.Step.{outcome}
 
@@ -77,23 +77,23 @@ module _ (s : State) (size : ℕ) where
 
   jumping_keeps : (rd target : ℕ) → OutcomeKeeps s size (Effect.jumping s size rd target)
   jumping_keeps rd target =
-    choice (OutcomeKeeps s size) (nat_eq (target % grain) 0) _ _ (λ whole_target. record { next = λ a whole. grind (arith, whole_target); mepc = λ a. a.mepc; data_inside = tt }) (λ other. tt)
+      choice (OutcomeKeeps s size) (nat_eq (target % grain) 0) _ _ (λ whole_target. record { next = λ a whole. grind (arith, whole_target); mepc = λ a. a.mepc; data_inside = tt }) (λ other. tt)
 
   accessing_keeps : (address width misaligned : ℕ) (x y : Outcome) → (InRam (length s.ram) address width → OutcomeKeeps s size x) → OutcomeKeeps s size y → OutcomeKeeps s size (Effect.accessing s address width misaligned x y)
   accessing_keeps address width misaligned x y inside outside =
-    choice (OutcomeKeeps s size) (nat_eq (address % width) 0) _ _
+      choice (OutcomeKeeps s size) (nat_eq (address % width) 0) _ _
       (λ aligned. choice (OutcomeKeeps s size) (in_ram (length s.ram) address width) x y (λ held. inside (in_ram-InRam _ _ _ held)) (λ out. outside))
       (λ misplaced. tt)
 
   loading_keeps : (supplied : Option Supplied) (op : LoadOp) (rd address : ℕ) → OutcomeKeeps s size (Effect.loading s supplied size op rd address)
   loading_keeps supplied op rd address =
-    accessing_keeps address (load_width op) 4 _ _ (λ held. keeps_access _ refl refl (record { whole = load_whole op; within = held }))
-    (choice (OutcomeKeeps s size) (is_device address) _ _ (λ device. keeps_access _ refl refl tt) (λ other. tt))
+      accessing_keeps address (load_width op) 4 _ _ (λ held. keeps_access _ refl refl (record { whole = load_whole op; within = held }))
+      (choice (OutcomeKeeps s size) (is_device address) _ _ (λ device. keeps_access _ refl refl tt) (λ other. tt))
 
   storing_keeps : (op : StoreOp) (value address : ℕ) → OutcomeKeeps s size (Effect.storing s size op value address)
   storing_keeps op value address =
-    accessing_keeps address (store_width op) 6 _ _ (λ held. keeps_access _ refl refl (record { whole = store_whole op; within = held }))
-    (choice (OutcomeKeeps s size) (is_device address) _ _ (λ device. keeps_access _ refl refl tt) (λ other. tt))
+      accessing_keeps address (store_width op) 6 _ _ (λ held. keeps_access _ refl refl (record { whole = store_whole op; within = held }))
+      (choice (OutcomeKeeps s size) (is_device address) _ _ (λ device. keeps_access _ refl refl tt) (λ other. tt))
 
   word_inside : (address : ℕ) → InRam (length s.ram) address 4 → IsInside (length s.ram) address 4
   word_inside address held = record { whole = inr (inr refl); within = held }
@@ -134,12 +134,12 @@ module _ (s : State) (size : ℕ) where
   csr_keeps : (op : CsrOp) (word rd source csr : ℕ) (read : Option ℕ) → OutcomeKeeps s size (Effect.csr_write s size op word rd source csr read)
   csr_keeps op word rd source csr None = tt
   csr_keeps op word rd source csr (Some old) =
-    by_write (writes_csr op source)
+      by_write (writes_csr op source)
     where
       by_write : (test : Bool) → OutcomeKeeps s size (Effect.csr_kept s size word rd old (if test then written s.csrs csr (csr_result op old (Effect.csr_operand s op source)) else Some s.csrs))
       by_write true =
-        kept_keeps word rd old (written s.csrs csr (csr_result op old (Effect.csr_operand s op source)))
-        (λ c is a. written_aligned s.csrs c csr (csr_result op old (Effect.csr_operand s op source)) is a.mepc)
+          kept_keeps word rd old (written s.csrs csr (csr_result op old (Effect.csr_operand s op source)))
+          (λ c is a. written_aligned s.csrs c csr (csr_result op old (Effect.csr_operand s op source)) is a.mepc)
       by_write false = kept_keeps word rd old (Some s.csrs) (λ c is a. grind (arith, is, a.mepc))
 
   pub outcome_keeps : (lines : ℕ) (supplied : Option Supplied) (word : ℕ) (i : Instr) → OutcomeKeeps s size (outcome s lines supplied word size i)
@@ -149,7 +149,7 @@ module _ (s : State) (size : ℕ) where
   outcome_keeps lines supplied word (instr.Jal rd imm) = jumping_keeps rd _
   outcome_keeps lines supplied word (instr.Jalr rd rs1 imm) = jumping_keeps rd _
   outcome_keeps lines supplied word (instr.Branch op rs1 rs2 imm) =
-    choice (OutcomeKeeps s size) (is_taken op (register s rs1) (register s rs2)) _ _ (λ taken. jumping_keeps 0 _) (λ other. keeps_access _ refl refl tt)
+      choice (OutcomeKeeps s size) (is_taken op (register s rs1) (register s rs2)) _ _ (λ taken. jumping_keeps 0 _) (λ other. keeps_access _ refl refl tt)
   outcome_keeps lines supplied word (instr.Load op rd rs1 imm) = loading_keeps supplied op rd _
   outcome_keeps lines supplied word (instr.Store op rs1 rs2 imm) = storing_keeps op _ _
   outcome_keeps lines supplied word (instr.OpImm op rd rs1 imm) = keeps_access _ refl refl tt

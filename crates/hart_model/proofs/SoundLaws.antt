@@ -1,7 +1,7 @@
 -- What each step keeps: instructions begin where they can, RAM keeps its size, and the event fits it.
-use Rattle.std.proofs.Common.{◌≡◌, ℕ, ◌+◌, ◌*◌, ◌%◌, true, false, length, Option, None, Some, refl, sym, ◌∙◌, subst, arith}
+use Rattle.std.proofs.Common.{◌≡◌, ℕ, ◌*◌, ◌%◌, true, false, length, Option, refl, sym, ◌∙◌, subst, arith}
 use Rattle.memory_map.specs.Ram.{InRam}
-use Rattle.run_events.specs.Event.{Fits, AccessFits, IsDataInRam}
+use Rattle.run_events.specs.Event.{Fits, AccessFits}
 use Rattle.run_events.specs.declared.access.Access.{Access}
 use Rattle.run_events.specs.declared.access.Access.TheVariants.{Quiet, Load, Store, Swap}
 use Rattle.run_events.specs.declared.event.Event.{Event}
@@ -10,13 +10,13 @@ use Rattle.rv_csr.proofs.TrapLaws.{vector_aligned}
 use Rattle.rv_memory.proofs.RamLaws.{length-stored}
 use Rattle.hart_model.proofs.AnnouncementLaws.{IsQuietAnnouncement, announcement_quiet}
 use Rattle.hart_model.proofs.FetchLaws.{IsFetched, found_is}
-use Rattle.hart_model.proofs.OutcomeLaws.{Keeps, OutcomeKeeps, AccessInside, IsInside, outcome_keeps}
-use Rattle.hart_model.proofs.StepCases.{Cases, each_step}
+use Rattle.hart_model.proofs.OutcomeLaws.{OutcomeKeeps, AccessInside, outcome_keeps}
+use Rattle.hart_model.proofs.StepCases.{each_step}
 use Rattle.hart_model.specs.Aligned.{IsAligned}
 use Rattle.hart_model.specs.Effect.{Outcome, Does, Raises}
 use Rattle.hart_model.specs.Fetch.{Fetched, grain}
 use Rattle.hart_model.specs.State.{State}
-use Rattle.hart_model.specs.Step.{cpu, outcome, step_by, interrupted, ram_after}
+use Rattle.hart_model.specs.Step.{cpu, outcome, step_by, ram_after}
 
 -- an access that stays inside RAM keeps its size
 size_after : (s : State) (a : Access) → AccessInside (length s.ram) a → length (ram_after s.ram a) ≡ length s.ram
@@ -78,6 +78,6 @@ cpu_fits s lines supplied kib a is =
       outside = λ address out. raises_fits s kib 0 1 address;
       illegal = λ f found none. raises_fits s kib f.word 2 f.word;
       instruction = λ f i found spelled.
-        let there = found_is s.ram s.pc f found in
-        by_fits s kib f (outcome s lines supplied f.word f.size i) a is there (outcome_keeps s f.size lines supplied f.word i) (announcement_quiet s lines supplied f.word f.size i (sym there.read ∙ spelled));
+          let there = found_is s.ram s.pc f found in
+          by_fits s kib f (outcome s lines supplied f.word f.size i) a is there (outcome_keeps s f.size lines supplied f.word i) (announcement_quiet s lines supplied f.word f.size i (sym there.read ∙ spelled));
     })
