@@ -6,7 +6,7 @@ use crate::{Diverged, Why};
 use elf_image::Image;
 use memory_map::NoMemory;
 use run_events::{Record, Watcher};
-use rv_cpu::Cpu;
+use first_cpu::Cpu;
 use rv_memory::Ram;
 use std::alloc::Global;
 

@@ -8,7 +8,7 @@ ghost use Rattle.replayer.specs.Replays.{IsAt};
 
 use memory_map::POWER;
 use run_events::Watcher;
-use rv_cpu::Cpu;
+use first_cpu::Cpu;
 
 /// Executes the steps below a number and shows each, up to one that is not built or behind a power store. `power` is the
 /// status where the last step was one, and so is the answer.

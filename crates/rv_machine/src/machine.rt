@@ -14,7 +14,7 @@ use crate::phase::Phase;
 use elf_image::Image;
 use memory_map::NoMemory;
 use run_events::{EndCause, Record};
-use rv_cpu::Cpu;
+use first_cpu::Cpu;
 use rv_memory::Ram;
 use std::alloc::Global;
 use std::marker::Model;

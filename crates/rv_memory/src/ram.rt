@@ -1,10 +1,6 @@
 //! RAM, byte by byte.
-<<<<<<< HEAD
-ghost use Rattle.std.specs.Prelude.{◌≡◌, ◌⊎◌, ℕ, ◌-◌, ◌*◌, ◌^◌, ◌<◌, ◌≤◌, List, length, take, drop, replicate, IfOk};
-=======
-ghost use Rattle.std.specs.Prelude.{◌≡◌, ◌⊎◌, ℕ, ◌+◌, ◌*◌, ◌^◌, ◌<◌, ◌≤◌, List, length, take, drop, replicate, IfOk};
+ghost use Rattle.std.specs.Prelude.{◌≡◌, ◌⊎◌, ℕ, ◌+◌, ◌-◌, ◌*◌, ◌^◌, ◌<◌, ◌≤◌, List, length, take, drop, replicate, IfOk};
 ghost use Rattle.std.specs.Int.{w16, w32, from_le_bytes};
->>>>>>> 14135b7ae86031d1812819ae918ed2195818a218
 ghost use Rattle.memory_map.specs.Ram.{InRam, IsWidth, in_ram};
 ghost use Rattle.rv_memory.specs.Ram.{loaded, stored, filled};
 

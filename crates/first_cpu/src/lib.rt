@@ -1,0 +1,8 @@
+//! The hart: one step at a time over its own RAM, with no device behind it.
+#![tactic(auto)]
+
+mod cpu;
+mod execute;
+mod rv_decode;
+
+pub use cpu::{Cpu, Supplied};
