@@ -1,0 +1,3 @@
+mod Examples
+pub mod TableLaws
+pub mod TrapLaws
