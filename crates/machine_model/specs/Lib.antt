@@ -1,3 +1,4 @@
+pub mod Board
 pub mod Image
 pub mod Instruction
 pub mod Items

@@ -1,5 +1,5 @@
 //! RAM, byte by byte.
-ghost use Rattle.std.specs.Prelude.{◌≡◌, ◌⊎◌, ℕ, ◌+◌, ◌*◌, ◌^◌, ◌<◌, ◌≤◌, List, length, take, drop, replicate, IfOk};
+ghost use Rattle.std.specs.Prelude.{◌≡◌, ◌⊎◌, ℕ, ◌+◌, ◌-◌, ◌*◌, ◌^◌, ◌<◌, ◌≤◌, List, length, take, drop, replicate, IfOk};
 ghost use Rattle.std.specs.Int.{w16, w32, from_le_bytes};
 ghost use Rattle.memory_map.specs.Ram.{InRam, IsWidth, in_ram};
 ghost use Rattle.rv_memory.specs.Ram.{loaded, stored, filled};
@@ -97,6 +97,15 @@ impl Ram {
             2 => bytes[at..at + 2].copy_from_slice(&low[..2]),
             _ => bytes[at..at + 4].copy_from_slice(&low),
         }
+    }
+
+    /// The `count` bytes from an address on.
+    pub fn bytes(&self, address: u32, count: u32) -> &[u8]
+        requires { InRam (length self.now) address count }
+        ensures { result.now ≡ take count (drop (address - RAM_START) self.now) }
+    {
+        let at = (address - RAM_START) as usize;
+        &self.bytes[at..at + count as usize]
     }
 
     /// Writes these bytes from an address on; all other bytes stay.

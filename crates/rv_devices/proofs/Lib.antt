@@ -1,0 +1,4 @@
+pub mod DiskLaws
+pub mod EntryLaws
+pub mod FollowLaws
+pub mod SendLaws

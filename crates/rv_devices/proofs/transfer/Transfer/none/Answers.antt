@@ -1,0 +1,6 @@
+use Rattle.std.proofs.Common.{arith}
+use Rattle.rv_devices.proofs.SendLaws.{sends_nothing}
+use Rattle.rv_devices.proofs.transfer.Transfer.none.Goals as goal
+
+pub returns : goal.returns
+returns c = sends_nothing _ (omega arith) (omega arith)
