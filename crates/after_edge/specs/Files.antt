@@ -3,7 +3,7 @@ use Rattle.std.specs.Prelude.{◌≡◌, ◌≢◌, ◌⊎◌, ℕ, ◌-◌, ◌
 use Rattle.list_laws.specs.Prefix.{IsPrefix}
 use Rattle.after_edge.specs.declared.files.ReadFault.{ReadFault}
 use Rattle.after_edge.specs.declared.files.ReadFault.TheVariants.{Absent, Failed}
-use Rattle.after_edge.specs.Fault.{raised}
+use Rattle.after_edge.specs.Fault.{Rose}
 
 -- what file a name has, if any
 abbrev pub Contents : Type 0
@@ -31,15 +31,15 @@ pub record Reads (files : Contents) (name : List ℕ) (at count : ℕ) (piece : 
   pub within : count ≤ length bytes - at
   pub some : at < length bytes → 0 < count
 
--- when a file may be called absent, and what is counted then
+-- when a file may be called absent, and what is counted then: nothing where the files tell it
 abbrev pub HasAbsentCause : Option Contents → List ℕ → ℕ → ℕ → Type 0
-HasAbsentCause content name before now = (IsAbsent content name × (now ≡ before)) ⊎ ((content ≡ None) × (now ≡ raised before))
+HasAbsentCause content name before now = (IsAbsent content name × (now ≡ before)) ⊎ ((content ≡ None) × Rose before now)
 
 -- when a read may give nothing, and what is counted
 abbrev pub HasReadCause : Option Contents → List ℕ → ℕ → ℕ → Result ℕ ReadFault → Type 0
-HasReadCause content name before now (Ok count) = now ≡ before
+HasReadCause content name before now (Ok count) = before ≤ now
 HasReadCause content name before now (Err Absent) = HasAbsentCause content name before now
-HasReadCause content name before now (Err Failed) = now ≡ raised before
+HasReadCause content name before now (Err Failed) = Rose before now
 
 -- a change of the told content at this name; other files stay
 pub record ChangesTold (old new : Contents) (name : List ℕ) (changed : Option (List ℕ) → Option (List ℕ) → Type 0) : Type 0 where
@@ -58,9 +58,9 @@ IsBegun was now = now ≡ Some []
 abbrev pub MayBeBegun : Option (List ℕ) → Option (List ℕ) → Type 0
 MayBeBegun was now = (now ≡ was) ⊎ (now ≡ Some [])
 
--- the piece stands behind its bytes; where the call failed, it is as before or a front of the piece does
+-- the piece stands after its bytes; where the call failed, it is as before or a prefix of the piece does
 abbrev pub IsAppended : List ℕ → Option (List ℕ) → Option (List ℕ) → Type 0
 IsAppended piece was now = now ≡ Some (unwrap_or was [] ++ piece)
 
 abbrev pub MayBeAppended : List ℕ → Option (List ℕ) → Option (List ℕ) → Type 0
-MayBeAppended piece was now = (now ≡ was) ⊎ ((front : List ℕ) × IsPrefix front piece × (now ≡ Some (unwrap_or was [] ++ front)))
+MayBeAppended piece was now = (now ≡ was) ⊎ ((part : List ℕ) × IsPrefix part piece × (now ≡ Some (unwrap_or was [] ++ part)))

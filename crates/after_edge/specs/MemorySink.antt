@@ -2,6 +2,7 @@
 use Rattle.std.specs.Prelude.{◌≡◌, ℕ, ◌-◌, ◌==◌, List, [], ◌++◌, length, take, min, Bool, ◌||◌, if◌then◌else◌, Option, unwrap_or, is_some, option_map, nat_lt}
 use Rattle.std.specs.List.{find}
 use Rattle.after_edge.specs.Fault.{raised}
+use Rattle.after_edge.specs.Sink.{Telling}
 
 -- the bytes, the most bytes that it takes, and the puts that are to fail, each after so many bytes
 pub record SinkState : Type 0 where
@@ -14,6 +15,10 @@ pub record SinkState : Type 0 where
 -- exactly these bytes were added
 abbrev pub HoldsBytes : SinkState → List ℕ → Type 0
 HoldsBytes s list = s.bytes ≡ list
+
+-- it tells its bytes
+abbrev pub in_memory : Telling SinkState
+in_memory = record { holds = HoldsBytes; faults = λ s. s.faults }
 
 -- before the first put
 abbrev pub empty_sink : ℕ → List (ℕ × ℕ) → SinkState
@@ -34,7 +39,7 @@ sink_room s = s.capacity - length s.bytes
 abbrev pub put_fails : SinkState → List ℕ → Bool
 put_fails s piece = is_some (next_limit s) || nat_lt (sink_room s) (length piece)
 
--- what is added of a piece: the front that the plan and the room allow
+-- what is added of a piece: the prefix that the plan and the room allow
 abbrev pub part_taken : Option ℕ → ℕ → List ℕ → List ℕ
 part_taken limit room piece = take (min (unwrap_or limit (length piece)) room) piece
 

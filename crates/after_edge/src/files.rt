@@ -1,6 +1,6 @@
 //! The trait of files, and why a read gives nothing.
-ghost use Rattle.std.specs.Prelude.{◌≡◌, ◌<◌, ◌≤◌, List, ℕ, Option, length, take, is_err, IfOk, OnOk, OnErr};
-ghost use Rattle.after_edge.specs.Fault.{Counted};
+ghost use Rattle.std.specs.Prelude.{◌≡◌, ◌<◌, ◌≤◌, List, ℕ, Option, length, take, IfOk, OnOk, OnErr};
+ghost use Rattle.after_edge.specs.Fault.{Counts};
 ghost use Rattle.after_edge.specs.Files.{Contents, IfTold, Reads, HasReadCause, Changes, IsBegun, MayBeBegun, IsAppended, MayBeAppended};
 
 use crate::Failed;
@@ -20,7 +20,7 @@ pub trait Files {
     ghost content: { Self → Option Contents };
 
     /// How many of their calls have failed; where content is told, a read of an absent file is none of them. The count
-    /// stands still at the end of its type.
+    /// saturates at the end of its type.
     ghost faults: { Self → ℕ };
 
     /// Reads from byte `at` of the file into the buffer, and answers the number of bytes read.
@@ -36,12 +36,12 @@ pub trait Files {
     fn begin(&mut self, name: &str) -> Result<(), Failed>
         ensures ok { OnOk result (Changes (content self.old) (content self.new) name.now IsBegun) }
         ensures err { OnErr result (Changes (content self.old) (content self.new) name.now MayBeBegun) }
-        ensures counted { Counted (is_err result) (faults self.old) (faults self.new) };
+        ensures counted { Counts result (faults self.old) (faults self.new) };
 
     /// Adds the piece at the file's end, and first makes a file that is absent.
-    /// Where it fails, some front of the piece was added.
+    /// Where it fails, some prefix of the piece was added.
     fn append(&mut self, name: &str, piece: &[u8]) -> Result<(), Failed>
         ensures ok { OnOk result (Changes (content self.old) (content self.new) name.now (IsAppended piece.now)) }
         ensures err { OnErr result (Changes (content self.old) (content self.new) name.now (MayBeAppended piece.now)) }
-        ensures counted { Counted (is_err result) (faults self.old) (faults self.new) };
+        ensures counted { Counts result (faults self.old) (faults self.new) };
 }

@@ -1,7 +1,7 @@
 //! Files in memory, with failures that are planned.
 ghost use Rattle.std.specs.Prelude.{◌≡◌, ◌<◌, ◌≤◌, ◌==◌, ◌-◌, length, take, drop, min, is_err, option_copied, IsOk, IfOk, OnOk, OnErr};
 ghost use Rattle.std.specs.List.{list_any};
-ghost use Rattle.after_edge.specs.Fault.{Counted};
+ghost use Rattle.after_edge.specs.Fault.{Counted, Counts};
 ghost use Rattle.after_edge.specs.Files.{IfTold, Reads, HasReadCause, Changes, IsBegun, MayBeBegun, IsAppended, MayBeAppended};
 ghost use Rattle.after_edge.specs.MemoryFiles.{FilesState, HasRoom, no_files, entry_of, file_of, room_after, set_after, read_after, begin_fails, begin_after, append_fails, append_after, told_content, read_answer};
 
@@ -125,7 +125,8 @@ impl Files for MemoryFiles {
     fn begin(&mut self, name: &str) -> Result<(), Failed>
         ensures ok { OnOk result (Changes (told_content self.old) (told_content self.new) name.now IsBegun) }
         ensures err { OnErr result (Changes (told_content self.old) (told_content self.new) name.now MayBeBegun) }
-        ensures counted { Counted (is_err result) self.old.faults self.new.faults }
+        ensures counted { Counts result self.old.faults self.new.faults }
+        ensures once { Counted (is_err result) self.old.faults self.new.faults }
         ensures fails { is_err result ≡ begin_fails self.old name.now }
         ensures after { self.new ≡ begin_after self.old name.now }
     {
@@ -146,7 +147,8 @@ impl Files for MemoryFiles {
     fn append(&mut self, name: &str, piece: &[u8]) -> Result<(), Failed>
         ensures ok { OnOk result (Changes (told_content self.old) (told_content self.new) name.now (IsAppended piece.now)) }
         ensures err { OnErr result (Changes (told_content self.old) (told_content self.new) name.now (MayBeAppended piece.now)) }
-        ensures counted { Counted (is_err result) self.old.faults self.new.faults }
+        ensures counted { Counts result self.old.faults self.new.faults }
+        ensures once { Counted (is_err result) self.old.faults self.new.faults }
         ensures fails { is_err result ≡ append_fails self.old name.now piece.now }
         ensures after { self.new ≡ append_after self.old name.now piece.now }
     {

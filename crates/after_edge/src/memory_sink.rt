@@ -1,8 +1,8 @@
 //! A sink in memory, with failures that are planned.
 ghost use Rattle.std.specs.Prelude.{◌≡◌, ◌≤◌, ℕ, List, length, take, min, unwrap_or, vec_len, vec_capacity, is_err, IfOk, OnOk, OnErr};
-ghost use Rattle.after_edge.specs.Fault.{Counted, raised};
-ghost use Rattle.after_edge.specs.Sink.{Adds, AddsPart};
-ghost use Rattle.after_edge.specs.MemorySink.{SinkState, HoldsBytes, empty_sink, planned_limit, part_taken, put_fails, sink_after};
+ghost use Rattle.after_edge.specs.Fault.{raised};
+ghost use Rattle.after_edge.specs.Sink.{Writes, WritesPart};
+ghost use Rattle.after_edge.specs.MemorySink.{SinkState, HoldsBytes, in_memory, empty_sink, planned_limit, part_taken, put_fails, sink_after};
 
 use crate::reserved::append_reserved;
 use crate::{Failed, Sink};
@@ -76,16 +76,13 @@ fn part_of(piece: &[u8], limit: Option<usize>, room: usize) -> &[u8]
 }
 
 impl Sink for MemorySink {
-    ghost holds = { HoldsBytes };
-
-    ghost faults = { λ s. s.faults };
+    ghost told = { in_memory };
 
     /// Fails exactly where a pair names this put or the piece passes the capacity.
     /// The first pair's number of bytes was then added, but no more than the piece has and than fits.
     fn put(&mut self, piece: &[u8]) -> Result<(), Failed>
-        ensures ok { OnOk result (Adds HoldsBytes self.old self.new piece.now) }
-        ensures err { OnErr result (AddsPart HoldsBytes self.old self.new piece.now) }
-        ensures counted { Counted (is_err result) self.old.faults self.new.faults }
+        ensures ok { OnOk result (Writes in_memory self.old self.new piece.now) }
+        ensures err { OnErr result (WritesPart in_memory self.old self.new piece.now) }
         ensures fails { is_err result ≡ put_fails self.old piece.now }
         ensures after { self.new ≡ sink_after self.old piece.now }
     {

@@ -1,7 +1,6 @@
 //! The trait of sinks.
-ghost use Rattle.std.specs.Prelude.{List, ℕ, is_err, OnOk, OnErr};
-ghost use Rattle.after_edge.specs.Fault.{Counted};
-ghost use Rattle.after_edge.specs.Sink.{Adds, AddsPart};
+ghost use Rattle.std.specs.Prelude.{OnOk, OnErr};
+ghost use Rattle.after_edge.specs.Sink.{Telling, Writes, WritesPart};
 
 /// The outside failed.
 #[derive(Clone, Copy, Debug, PartialEq, Eq)]
@@ -9,15 +8,12 @@ pub struct Failed;
 
 /// Something that takes bytes, one piece after another.
 pub trait Sink {
-    /// It holds these bytes. One that tells nothing of its content holds every list.
-    ghost holds: { Self → List ℕ → Type 0 };
+    /// Which bytes it holds, and how many of its puts have failed. A count saturates at the end of its type.
+    ghost told: { Telling Self };
 
-    /// How many of its puts have failed. The count stands still at the end of its type.
-    ghost faults: { Self → ℕ };
-
-    /// Adds the piece. Where it fails, some front of the piece was added.
+    /// Adds the piece. It fails only where the count of faults rose in this call, and then some prefix of the piece was
+    /// added.
     fn put(&mut self, piece: &[u8]) -> Result<(), Failed>
-        ensures ok { OnOk result (Adds holds self.old self.new piece.now) }
-        ensures err { OnErr result (AddsPart holds self.old self.new piece.now) }
-        ensures counted { Counted (is_err result) (faults self.old) (faults self.new) };
+        ensures ok { OnOk result (Writes told self.old self.new piece.now) }
+        ensures err { OnErr result (WritesPart told self.old self.new piece.now) };
 }

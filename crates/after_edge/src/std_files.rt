@@ -3,7 +3,7 @@ ghost use Rattle.std.specs.Prelude.{◌≡◌, ◌<◌, ◌≤◌, ◌↔◌, �
 ghost use Rattle.std.specs.declared.io.ErrorKind.TheVariants.{NotFound};
 ghost use Rattle.std.specs.IoError.{error_kind};
 ghost use Rattle.after_edge.specs.declared.files.ReadFault.TheVariants.{Absent};
-ghost use Rattle.after_edge.specs.Fault.{Counted};
+ghost use Rattle.after_edge.specs.Fault.{Counted, Counts};
 ghost use Rattle.after_edge.specs.Files.{IfTold, untold, Reads, HasReadCause, Changes, IsBegun, MayBeBegun, IsAppended, MayBeAppended};
 
 use crate::{Failed, Files, ReadFault};
@@ -77,6 +77,7 @@ impl<'a, R: std::rt::Files> Files for StdFiles<'a, R> {
         ensures within { IfOk result (λ count. count ≤ length buf.new) }
         ensures read { IfOk result (λ count. IfTold untold (λ files. Reads files name.now at count (take count buf.new))) }
         ensures cause { HasReadCause untold name.now self.old.faults self.new.faults result }
+        ensures once { Counted (is_err result) self.old.faults self.new.faults }
         ensures same { untold ≡ untold }
     {
         match read_from(self.rt, name, at, buf) {
@@ -92,7 +93,8 @@ impl<'a, R: std::rt::Files> Files for StdFiles<'a, R> {
     fn begin(&mut self, name: &str) -> Result<(), Failed>
         ensures ok { OnOk result (Changes untold untold name.now IsBegun) }
         ensures err { OnErr result (Changes untold untold name.now MayBeBegun) }
-        ensures counted { Counted (is_err result) self.old.faults self.new.faults }
+        ensures counted { Counts result self.old.faults self.new.faults }
+        ensures once { Counted (is_err result) self.old.faults self.new.faults }
     {
         match File::create(self.rt, name) {
             Ok(_) => Ok(()),
@@ -108,7 +110,8 @@ impl<'a, R: std::rt::Files> Files for StdFiles<'a, R> {
     fn append(&mut self, name: &str, piece: &[u8]) -> Result<(), Failed>
         ensures ok { OnOk result (Changes untold untold name.now (IsAppended piece.now)) }
         ensures err { OnErr result (Changes untold untold name.now (MayBeAppended piece.now)) }
-        ensures counted { Counted (is_err result) self.old.faults self.new.faults }
+        ensures counted { Counts result self.old.faults self.new.faults }
+        ensures once { Counted (is_err result) self.old.faults self.new.faults }
     {
         match write_at_end(self.rt, name, piece) {
             Ok(()) => Ok(()),

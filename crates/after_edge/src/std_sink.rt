@@ -2,7 +2,7 @@
 ghost use Rattle.std.specs.Prelude.{◌≡◌, ℕ, List, is_err, OnOk, OnErr};
 ghost use Rattle.std.specs.Io.KnownBytes.{Appends};
 ghost use Rattle.after_edge.specs.Fault.{Counted};
-ghost use Rattle.after_edge.specs.Sink.{Adds, AddsPart, HoldsAny};
+ghost use Rattle.after_edge.specs.Sink.{HoldsAny, Telling, Writes, WritesPart};
 
 use crate::{Failed, Sink};
 use std::io;
@@ -34,14 +34,12 @@ fn write_through<W: Write>(writer: &mut W, piece: &[u8]) -> io::Result<()>
 }
 
 impl<W: Write + Drop> Sink for StdSink<W> {
-    ghost holds = { HoldsAny };
-
-    ghost faults = { λ s. s.faults };
+    ghost told = { record { holds = HoldsAny; faults = λ s. s.faults } };
 
     /// Writes the whole piece and flushes. The count rises exactly where that fails.
     fn put(&mut self, piece: &[u8]) -> Result<(), Failed>
-        ensures ok { OnOk result (Adds HoldsAny self.old self.new piece.now) }
-        ensures err { OnErr result (AddsPart HoldsAny self.old self.new piece.now) }
+        ensures ok { OnOk result (Writes (record { holds = HoldsAny; faults = λ s. s.faults }) self.old self.new piece.now) }
+        ensures err { OnErr result (WritesPart (record { holds = HoldsAny; faults = λ s. s.faults }) self.old self.new piece.now) }
         ensures counted { Counted (is_err result) self.old.faults self.new.faults }
         ensures written { OnOk result (Appends (W.contents self.old.writer) (W.contents self.new.writer) piece.now) }
     {

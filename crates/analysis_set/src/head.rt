@@ -1,7 +1,6 @@
 //! The first six lines of the report.
 ghost use Rattle.std.specs.Prelude.{is_err, ◌≤◌, OnOk, OnErr};
-ghost use Rattle.after_edge.specs.Fault.{Counted};
-ghost use Rattle.after_edge.specs.Sink.{Adds, AddsPart};
+ghost use Rattle.after_edge.specs.Sink.{Writes, WritesPart};
 ghost use Rattle.analysis_model.specs.Report.{head_text};
 ghost use Rattle.analysis_set.specs.Head.{facts_of};
 
@@ -29,9 +28,8 @@ pub struct RunFacts {
 /// Writes the six lines of the report's head, of which the first is empty.
 #[tactic(auto, unfolding(analysis_model::specs::Report::head_text))]
 pub fn report_head<O: Sink>(facts: &RunFacts, out: &mut O) -> Result<(), Failed>
-    ensures ok { OnOk result (Adds O.holds out.old out.new (head_text (facts_of facts.now))) }
-    ensures err { OnErr result (AddsPart O.holds out.old out.new (head_text (facts_of facts.now))) }
-    ensures counted { Counted (is_err result) (O.faults out.old) (O.faults out.new) }
+    ensures ok { OnOk result (Writes O.told out.old out.new (head_text (facts_of facts.now))) }
+    ensures err { OnErr result (WritesPart O.told out.old out.new (head_text (facts_of facts.now))) }
 {
     let all = [
         Line::new().ended(),

@@ -2,8 +2,7 @@
 ghost use Rattle.std.specs.Prelude.{is_err, ◌≡◌, ◌<◌, ◌≤◌, List, slice_index_or, length, OnOk, OnErr, take};
 ghost use Rattle.std.specs.List.{flat_map};
 ghost use Rattle.run_events.specs.declared.event.Event.{Event};
-ghost use Rattle.after_edge.specs.Fault.{Counted};
-ghost use Rattle.after_edge.specs.Sink.{Adds, AddsPart};
+ghost use Rattle.after_edge.specs.Sink.{Writes, WritesPart};
 ghost use Rattle.analysis_model.specs.Made.{kind_made_of, code_made_of};
 ghost use Rattle.analysis_model.specs.Report.{cover_text, part_text, range_line};
 ghost use Rattle.coverage_map.specs.Coverage.{summary_now};
@@ -19,9 +18,8 @@ use run_events::Kind;
 
 /// Writes the lines of an analysis.
 pub fn report_part<O: Sink>(analysis: &AnyAnalysis, out: &mut O) -> Result<(), Failed>
-    ensures ok { OnOk result ((h : List Event) → HasSeen analysis.now h → Adds O.holds out.old out.new (part_text (code_made_of (made_of analysis.now)) h (kind_made_of (made_of analysis.now)))) }
-    ensures err { OnErr result ((h : List Event) → HasSeen analysis.now h → AddsPart O.holds out.old out.new (part_text (code_made_of (made_of analysis.now)) h (kind_made_of (made_of analysis.now)))) }
-    ensures counted { Counted (is_err result) (O.faults out.old) (O.faults out.new) }
+    ensures ok { OnOk result ((h : List Event) → HasSeen analysis.now h → Writes O.told out.old out.new (part_text (code_made_of (made_of analysis.now)) h (kind_made_of (made_of analysis.now)))) }
+    ensures err { OnErr result ((h : List Event) → HasSeen analysis.now h → WritesPart O.told out.old out.new (part_text (code_made_of (made_of analysis.now)) h (kind_made_of (made_of analysis.now)))) }
 {
     match analysis {
         AnyAnalysis::Cover(coverage) => cover_part(coverage, out),
@@ -30,9 +28,8 @@ pub fn report_part<O: Sink>(analysis: &AnyAnalysis, out: &mut O) -> Result<(), F
 
 // The lines of coverage.
 fn cover_part<O: Sink>(coverage: &Coverage, out: &mut O) -> Result<(), Failed>
-    ensures ok { OnOk result (Adds O.holds out.old out.new (cover_text (summary_now coverage.now))) }
-    ensures err { OnErr result (AddsPart O.holds out.old out.new (cover_text (summary_now coverage.now))) }
-    ensures counted { Counted (is_err result) (O.faults out.old) (O.faults out.new) }
+    ensures ok { OnOk result (Writes O.told out.old out.new (cover_text (summary_now coverage.now))) }
+    ensures err { OnErr result (WritesPart O.told out.old out.new (cover_text (summary_now coverage.now))) }
 {
     match put_totals(coverage, out) {
         Ok(()) => {}
@@ -47,9 +44,8 @@ fn cover_part<O: Sink>(coverage: &Coverage, out: &mut O) -> Result<(), Failed>
 
 // The line of the findings, and that of the pc values.
 fn put_totals<O: Sink>(coverage: &Coverage, out: &mut O) -> Result<(), Failed>
-    ensures ok { OnOk result (Adds O.holds out.old out.new (totals_text (summary_now coverage.now))) }
-    ensures err { OnErr result (AddsPart O.holds out.old out.new (totals_text (summary_now coverage.now))) }
-    ensures counted { Counted (is_err result) (O.faults out.old) (O.faults out.new) }
+    ensures ok { OnOk result (Writes O.told out.old out.new (totals_text (summary_now coverage.now))) }
+    ensures err { OnErr result (WritesPart O.told out.old out.new (totals_text (summary_now coverage.now))) }
 {
     let both = [
         lines::findings(Kind::Cover, coverage.count(), coverage.first()),
@@ -60,9 +56,8 @@ fn put_totals<O: Sink>(coverage: &Coverage, out: &mut O) -> Result<(), Failed>
 
 // The lines of the first 64 ranges.
 fn put_ranges<O: Sink>(coverage: &Coverage, out: &mut O) -> Result<(), Failed>
-    ensures ok { OnOk result (Adds O.holds out.old out.new (flat_map range_line (take 64 (summary_now coverage.now).ranges))) }
-    ensures err { OnErr result (AddsPart O.holds out.old out.new (flat_map range_line (take 64 (summary_now coverage.now).ranges))) }
-    ensures counted { Counted (is_err result) (O.faults out.old) (O.faults out.new) }
+    ensures ok { OnOk result (Writes O.told out.old out.new (flat_map range_line (take 64 (summary_now coverage.now).ranges))) }
+    ensures err { OnErr result (WritesPart O.told out.old out.new (flat_map range_line (take 64 (summary_now coverage.now).ranges))) }
 {
     for index in 0..coverage.ranges().min(64) {
         match out.put(shown_range(coverage, index).as_bytes()) {

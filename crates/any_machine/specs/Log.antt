@@ -1,6 +1,6 @@
 -- The log of a run, its items and its output, read off the finished run.
 use Rattle.std.proofs.Common.{suc}
-use Rattle.std.specs.Prelude.{ℕ, ◌-◌, ◌%◌, ◌||◌, ◌==◌, List, [], ◌∷◌, ◌++◌, map, Option, None, Some, is_some, if◌then◌else◌}
+use Rattle.std.specs.Prelude.{ℕ, ◌-◌, ◌%◌, ◌||◌, ◌==◌, List, [], ◌∷◌, ◌++◌, map, Option, None, Some, is_some, filter, nat_lt, if◌then◌else◌}
 use Rattle.std.specs.Option.{option_map}
 use Rattle.std.specs.List.{filter_map}
 use Rattle.run_events.specs.declared.event.Event.{Event}
@@ -80,3 +80,7 @@ bytes_of items = filter_map byte_of items
 -- the output of a list of events: the bytes that go out on the serial line, each with its step
 abbrev pub output : List Event → List (ℕ × ℕ)
 output events = filter_map (λ event. option_map (λ byte. (step_of event, byte)) (serial_byte event)) events
+
+-- the part of some output whose steps are smaller than this one
+abbrev pub before_step : ℕ → List (ℕ × ℕ) → List (ℕ × ℕ)
+before_step step sent = filter (λ byte. nat_lt byte.0 step) sent

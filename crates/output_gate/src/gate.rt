@@ -1,7 +1,6 @@
 //! The gate: bytes that wait for their steps.
 ghost use Rattle.std.specs.Prelude.{◌≡◌, ◌+◌, ◌<◌, ◌≤◌, false, length, take, drop, is_err, IfOk, OnOk, OnErr};
-ghost use Rattle.after_edge.specs.Fault.{Counted};
-ghost use Rattle.after_edge.specs.Sink.{Adds, AddsPart};
+ghost use Rattle.after_edge.specs.Sink.{Writes, WritesPart};
 ghost use Rattle.circular_buffer.specs.Buffer.{buffer};
 ghost use Rattle.output_gate.specs.Gate.{Climbs, behind, count_below, empty_gate, is_full, is_withheld, least_from, with_failure, with_issue, with_release, with_withheld};
 
@@ -94,11 +93,10 @@ impl OutputGate {
     pub fn release<O: Sink>(&mut self, below: u32, out: &mut O) -> Result<u32, SinkFault>
         requires sound { self.old.failed ≡ false }
         ensures count { IfOk result (λ count. count ≡ count_below below self.old.steps) }
-        ensures ok { OnOk result (Adds O.holds out.old out.new (take (count_below below self.old.steps) self.old.bytes)) }
-        ensures err { OnErr result (AddsPart O.holds out.old out.new (take (count_below below self.old.steps) self.old.bytes)) }
+        ensures ok { OnOk result (Writes O.told out.old out.new (take (count_below below self.old.steps) self.old.bytes)) }
+        ensures err { OnErr result (WritesPart O.told out.old out.new (take (count_below below self.old.steps) self.old.bytes)) }
         ensures some { OnErr result (1 ≤ count_below below self.old.steps) }
         ensures none { count_below below self.old.steps ≡ 0 → out.new ≡ out.old }
-        ensures counted { Counted (is_err result) (O.faults out.old) (O.faults out.new) }
         ensures released { OnOk result (self.new ≡ with_release self.old (count_below below self.old.steps)) }
         ensures failed { OnErr result (self.new ≡ with_failure self.old (count_below below self.old.steps)) }
     {
@@ -231,9 +229,8 @@ fn put_front<O: Sink>(
 ) -> Result<(), Failed>
     requires { count ≤ length bytes.old.items }
     ensures same { bytes.new ≡ bytes.old }
-    ensures ok { OnOk result (Adds O.holds out.old out.new (take count bytes.old.items)) }
-    ensures err { OnErr result (AddsPart O.holds out.old out.new (take count bytes.old.items)) }
-    ensures counted { Counted (is_err result) (O.faults out.old) (O.faults out.new) }
+    ensures ok { OnOk result (Writes O.told out.old out.new (take count bytes.old.items)) }
+    ensures err { OnErr result (WritesPart O.told out.old out.new (take count bytes.old.items)) }
 {
     let whole: &[u8] = bytes.make_contiguous();
     out.put(&whole[..count])

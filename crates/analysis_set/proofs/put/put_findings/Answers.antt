@@ -1,8 +1,8 @@
 use Rattle.std.proofs.Common.{◌∙◌, arith}
 use Rattle.analysis_model.specs.Report.{finding_line}
-use Rattle.analysis_set.proofs.LineLaws.{AddsPart-next}
+use Rattle.analysis_set.proofs.LineLaws.{WritesPart-next}
 use Rattle.analysis_set.proofs.put.put_findings.Goals as goal
 
 pub returns-in-Err-clause-err : goal.returns-in-Err-clause-err
 returns-in-Err-clause-err g c =
-    AddsPart-next g.O.Sink.holds _ c.loop-finding.out _ (finding_line c.args.kind) c.args.found.now c.loop-finding.finding-index _ c.as_bytes.result.now (omega arith) (c.as_bytes.ensures ∙ c.finding.ensures) c.loop-finding.invariant.added c.in-Err.ensures.err
+    WritesPart-next g.O.Sink.told _ c.loop-finding.out _ (finding_line c.args.kind) c.args.found.now c.loop-finding.finding-index _ c.as_bytes.result.now (omega arith) (c.as_bytes.ensures ∙ c.finding.ensures) c.loop-finding.invariant c.in-Err.ensures.err

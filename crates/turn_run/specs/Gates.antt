@@ -1,0 +1,75 @@
+-- The gate of a run, where the core stands.
+use Rattle.std.specs.Prelude.{◌≡◌, ◌⊎◌, ℕ, ◌+◌, ◌-◌, ◌<◌, ◌≤◌, Bool, true, false, if◌then◌else◌, List, [], ◌∷◌, length, take, drop, min, slice_index, Option, Some, None}
+use Rattle.std.specs.List.{All}
+use Rattle.run_events.specs.Record.{number}
+use Rattle.any_machine.specs.Log.{Item, before_step, bytes_of}
+use Rattle.gate_core.specs.declared.verdict.Verdict.{Verdict}
+use Rattle.gate_core.specs.Core.{CoreState}
+use Rattle.gate_core.specs.Hub.{HubState, approved_at, verdict_at}
+use Rattle.output_gate.specs.Gate.{GateState, behind, with_issue, with_withheld}
+use Rattle.turn_run.specs.Course.{Course, steps_of, bytes_in, stop_of}
+
+-- the bytes of the records that were appended, each with its step
+abbrev pub issued_by : Course → ℕ → List (ℕ × ℕ)
+issued_by c count = bytes_of (take count c.items)
+
+-- those of them that are let out
+abbrev pub released_by : Course → ℕ → List ℕ
+released_by c count = bytes_in (before_step (stop_of c) (issued_by c count))
+
+-- those of them that are not withheld
+abbrev pub kept : Option ℕ → List (ℕ × ℕ) → List (ℕ × ℕ)
+kept None sent = sent
+kept (Some from) sent = before_step from sent
+
+-- those of them that are not released either
+abbrev pub still_waiting : Course → CoreState → Option ℕ → List (ℕ × ℕ)
+still_waiting c core from = drop core.released (kept from (issued_by c core.appended))
+
+-- a step is the limit of a replica that has to approve
+pub record IsLimit (c : Course) (step : ℕ) : Type 0 where
+  pub place : ℕ
+  pub there : place < length c.required
+  pub is : step ≡ slice_index c.limits (slice_index c.required place)
+
+-- all from some step on is withheld only where a required replica refuses that step
+abbrev pub IsWithheldFrom : Course → Option ℕ → Type 0
+IsWithheldFrom c None = Unit {0}
+IsWithheldFrom c (Some from) = IsLimit c from
+
+-- The bytes of the appended records were issued. What is not released and not withheld waits, and what was put is
+-- approved by each required replica.
+pub record Gates (c : Course) (core : CoreState) (gate : GateState) : Type 0 where
+  pub steps : gate.steps ≡ steps_of (still_waiting c core gate.from)
+  pub bytes : gate.bytes ≡ bytes_in (still_waiting c core gate.from)
+  pub issued : gate.issued ≡ length (issued_by c core.appended)
+  pub released : gate.released ≡ core.released
+  pub last : gate.next ≡ behind 0 (steps_of (issued_by c core.appended))
+  pub passed : All (λ reader. gate.passed ≤ slice_index core.approved reader) c.required
+  pub withheld : IsWithheldFrom c gate.from
+  pub sound : gate.failed ≡ false
+  pub there : core.released ≤ length (kept gate.from (issued_by c core.appended))
+  pub few : length gate.steps ≤ 4096
+
+-- a gate after the byte of an item was issued to it
+abbrev pub with_byte : GateState → ℕ → Option ℕ → GateState
+with_byte gate step None = gate
+with_byte gate step (Some byte) = with_issue gate step byte
+
+abbrev pub with_item : GateState → Item → GateState
+with_item gate i = with_byte gate (number i.item - 1) i.byte
+
+-- below which step all of these readers approve; where there are none, all
+abbrev pub least_approved : HubState → List ℕ → ℕ
+least_approved hub [] = 1000000000
+least_approved hub (reader ∷ readers) = min (approved_at hub reader) (least_approved hub readers)
+
+-- from which steps on those of them refuse that refuse anything
+abbrev pub refusals : HubState → List ℕ → List ℕ
+refusals hub [] = []
+refusals hub (reader ∷ readers) = if (verdict_at hub reader).refused then approved_at hub reader ∷ refusals hub readers else refusals hub readers
+
+-- the gate after all from each of these steps on was withheld
+abbrev pub withheld_from : List ℕ → GateState → GateState
+withheld_from [] gate = gate
+withheld_from (step ∷ steps) gate = withheld_from steps (with_withheld gate step)
