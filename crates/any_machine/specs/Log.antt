@@ -4,6 +4,7 @@ use Rattle.std.specs.Prelude.{ℕ, ◌-◌, ◌%◌, ◌||◌, ◌==◌, List, [
 use Rattle.std.specs.Option.{option_map}
 use Rattle.std.specs.List.{filter_map}
 use Rattle.run_events.specs.declared.event.Event.{Event}
+use Rattle.run_events.specs.declared.item.Item.{Item}
 use Rattle.run_events.specs.declared.record.Record.{Record}
 use Rattle.run_events.specs.declared.record.Record.TheVariants.{Load, Lines, Dma, Reach, End}
 use Rattle.run_events.specs.declared.supply.DmaWord.{DmaWord}
@@ -12,11 +13,6 @@ use Rattle.run_events.specs.Event.{step_of}
 use Rattle.run_events.specs.Record.{number}
 use Rattle.any_machine.specs.Machine.{Turn, serial_byte}
 use Rattle.any_machine.specs.Run.{Finished}
-
--- a record, and the byte of output whose step it says is done
-pub record Item : Type 0 where
-  pub item : Record
-  pub byte : Option ℕ
 
 -- The records of step n: each of its words; its lines, where they differ from those held before; what a device register
 -- gave; and that it is done, where it sent a byte or its number plus 1 is a multiple of 256.

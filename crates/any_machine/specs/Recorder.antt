@@ -2,6 +2,7 @@
 use Rattle.std.proofs.Common.{suc}
 use Rattle.std.specs.Prelude.{ℕ, List, [], ◌∷◌, ◌++◌, map, Option, None, Some}
 use Rattle.run_events.specs.declared.event.Event.{Event}
+use Rattle.run_events.specs.declared.item.Item.{Item}
 use Rattle.run_events.specs.declared.record.EndCause.{EndCause}
 use Rattle.run_events.specs.declared.record.EndCause.TheVariants.{Power}
 use Rattle.run_events.specs.declared.record.Record.TheVariants.{End}
@@ -11,7 +12,7 @@ use Rattle.run_events.specs.declared.supply.Need.TheVariants.{Load, Nothing}
 use Rattle.run_events.specs.declared.supply.Supplied.{Supplied}
 use Rattle.any_machine.specs.Machine.{Machine, Board, power_status, touched}
 use Rattle.any_machine.specs.Run.{run_from}
-use Rattle.any_machine.specs.Log.{Item, plain_item, word_record, lines_records, load_records, reach_items, items_from}
+use Rattle.any_machine.specs.Log.{plain_item, word_record, lines_records, load_records, reach_items, items_from}
 
 -- the last item of a run
 abbrev pub end_item : ℕ → EndCause → Item
