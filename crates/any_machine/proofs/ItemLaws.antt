@@ -7,12 +7,13 @@ use Rattle.std.proofs.lemmas.List.{map-append}
 use Rattle.std.proofs.lemmas.List.Elements.{filter_map-append}
 use Rattle.memory_map.specs.declared.TheConstants.{SERIAL_DATA}
 use Rattle.run_events.specs.declared.event.Event.{Event}
+use Rattle.run_events.specs.declared.item.Item.{Item}
 use Rattle.run_events.specs.declared.record.Record.{Record}
 use Rattle.run_events.specs.declared.record.Record.TheVariants.{Reach, End}
 use Rattle.run_events.specs.Event.{step_of}
 use Rattle.any_machine.specs.Machine.{Turn, serial_byte}
 use Rattle.any_machine.specs.Run.{Finished, events_in, events_of}
-use Rattle.any_machine.specs.Log.{Item, plain_item, word_record, lines_records, load_records, reach_records, reach_items, input_records, turn_records, turn_items, turns_log, turns_items, log, items, byte_of, bytes_of, output}
+use Rattle.any_machine.specs.Log.{plain_item, word_record, lines_records, load_records, reach_records, reach_items, input_records, turn_records, turn_items, turns_log, turns_items, log, items, byte_of, bytes_of, output}
 use Rattle.any_machine.proofs.NumberLaws.{IsWordAt, TurnStands, TurnsStand}
 
 -- the records of plain items, which let no byte go

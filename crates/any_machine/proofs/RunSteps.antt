@@ -1,6 +1,7 @@
 -- What is still to come of a run, unfolded by one step.
 use Rattle.std.proofs.Common.{◌≡◌, ℕ, suc, List, [], ◌∷◌, ◌++◌, map, Option, Some, None, refl, ap, ◌∙◌, append_assoc, append-nil}
 use Rattle.std.proofs.lemmas.List.{map-append}
+use Rattle.run_events.specs.declared.item.Item.{Item}
 use Rattle.run_events.specs.declared.record.EndCause.TheVariants.{Power, Limit}
 use Rattle.run_events.specs.declared.record.Record.{Record}
 use Rattle.run_events.specs.declared.record.Record.TheVariants.{End}
@@ -10,7 +11,7 @@ use Rattle.run_events.specs.declared.supply.Need.TheVariants.{Load, Nothing}
 use Rattle.run_events.specs.declared.supply.Supplied.{Supplied}
 use Rattle.any_machine.specs.Machine.{Machine, Board, Input, Turn, power_status, touched, after, turn_of}
 use Rattle.any_machine.specs.Run.{served_by, run_after, run_from}
-use Rattle.any_machine.specs.Log.{Item, plain_item, word_record, lines_records, load_records, reach_items, turn_items, turns_items, items_from}
+use Rattle.any_machine.specs.Log.{plain_item, word_record, lines_records, load_records, reach_items, turn_items, turns_items, items_from}
 use Rattle.any_machine.specs.Recorder.{end_item, still_to_come, after_step, at_step, with_load, at_lines, at_words}
 use Rattle.any_machine.proofs.BoardRun.{run_from-limit, run_from-step}
 

@@ -1,4 +1,4 @@
-//! The hart: one step at a time over its own RAM, with no device behind it.
+//! The hart of the first path: four instructions, one step at a time over its own RAM, with no device behind it.
 #![tactic(auto)]
 
 mod cpu;

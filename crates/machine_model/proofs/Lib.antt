@@ -3,6 +3,7 @@ pub mod ItemLaws
 pub mod NumberLaws
 mod BoardExamples
 pub mod BoardLaws
+mod GuestExamples
 mod ReplayExamples
 pub mod RunLaws
 pub mod ShownLaws

@@ -1,4 +1,5 @@
 pub mod Board
+pub mod Guest
 pub mod Image
 pub mod Instruction
 pub mod Items
