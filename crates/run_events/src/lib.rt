@@ -22,7 +22,6 @@ pub use fault::{Diverged, Why};
 pub use finding::{Finding, FindingKind, Kind};
 pub use item::Item;
 pub use numbers::{is_record, number};
-pub use item::Item;
 pub use record::{EndCause, Record};
 pub use sequence::Sequence;
 pub use supply::{DmaWord, Need, Supplied};
