@@ -1,3 +1,4 @@
+pub mod AppendLaws
 pub mod CourseLaws
 pub mod IssueLaws
 pub mod LeastLaws

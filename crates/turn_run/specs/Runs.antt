@@ -114,7 +114,8 @@ module _ {M F : Type 0} (r : Recording M) (f : Following F) where
     pub «open» : core.closed ≡ false
     pub crowded : HasNoRoom c core (length before.gate.steps)
     pub at : IsAt c core after
-    pub same : after.gate ≡ before.gate
+    pub hub : after.hub ≡ before.hub
+    pub gate : after.gate ≡ before.gate
 
   -- what a turn of the recorder answers, and where it leads
   abbrev pub Records : Course → CoreState → Recorded → Parts M F → Parts M F → Type 0
