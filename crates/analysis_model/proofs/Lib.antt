@@ -1,4 +1,5 @@
 pub mod ContextLaws
+pub mod CoverLaws
 mod Examples
 pub mod FindingLaws
 pub mod FirstLaws

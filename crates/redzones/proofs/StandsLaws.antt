@@ -20,15 +20,10 @@ use Rattle.finding_tally.specs.Tallied.{Tallied, Tallies}
 use Rattle.finding_tally.proofs.TalliedLaws.{tallied_with-more}
 use Rattle.shadow_state.specs.Shade.{Shade, shade, has_byte, covers, painted}
 use Rattle.shadow_state.proofs.PaintLaws.{painted-at, has_byte-painted}
+use Rattle.shadow_state.proofs.SizeLaws.{length_painted, has_byte_of}
 use Rattle.redzones.specs.declared.zones.TheConstants.{PLAIN}
 use Rattle.redzones.specs.Zones.{Zones, Stands, guest_now, use_coded, use_in, found_now, after}
-use Rattle.redzones.proofs.UseLaws.{length_painted, length-painted_by, painted_by-use}
-
-in_ram_is : (size address : ℕ) → InRam size address 1 → in_ram size address 1 ≡ true
-in_ram_is size address within = grind (arith, nat_tests, within.from, within.to)
-
-has_byte_of : (s : Shade) (kib address : ℕ) → length s.bytes ≡ 1024 * kib → IsByteOf kib address → has_byte s address ≡ true
-has_byte_of s kib address whole within = ap (λ n. in_ram n address 1) whole ∙ in_ram_is (1024 * kib) address within
+use Rattle.redzones.proofs.UseLaws.{length-painted_by, painted_by-use}
 
 has_byte-painted_by : (z : Zones) (event : Event) (address : ℕ) → has_byte (after z event).shade address ≡ has_byte z.shade address
 has_byte-painted_by z event address = ap (λ n. in_ram n address 1) (length-painted_by z.shade (announced event))
@@ -36,7 +31,7 @@ has_byte-painted_by z event address = ap (λ n. in_ram n address 1) (length-pain
 -- what is found now is what the look back finds
 found-same : (z : Zones) (event : Event) (h : List Event) → Fits z.ram_kib event → Stands z h → found_now z event ≡ found_at (complaint kind.Heap (guest_now z)) (reverse h) event
 found-same z event h fits stands =
-    ap (option_map (finding_of event)) (heap_by-same z.ram_kib (use_in z.shade) (use_after (reverse h)) (λ a within. stands.uses a (has_byte_of z.shade z.ram_kib a stands.whole within)) event fits)
+    ap (option_map (finding_of event)) (heap_by-same z.ram_kib (use_in z.shade) (use_after (reverse h)) (λ a within. stands.uses a (has_byte_of z.shade (1024 * z.ram_kib) a stands.whole within)) event fits)
 
 -- they stand for one event more, once they have taken that in
 pub Stands-more : (z : Zones) (event : Event) (h : List Event) → Fits z.ram_kib event → Stands z h → Stands (after z event) (h ++ event ∷ [])

@@ -1,5 +1,5 @@
 -- Values of the shadow and the uses that they stand for, tested and painted.
-use Rattle.std.proofs.Common.{◌≡◌, ◌≢◌, ℕ, ◌+◌, ◌-◌, ◌*◌, ◌%◌, ◌==◌, min, max, not, Bool, true, false, cond, Option, None, Some, length, unwrap_or, refl, sym, ap, ◌∙◌, arith}
+use Rattle.std.proofs.Common.{◌≡◌, ◌≢◌, ℕ, ◌+◌, ◌-◌, ◌*◌, ◌%◌, ◌^◌, ◌==◌, ◌<◌, min, max, not, Bool, true, false, cond, Option, None, Some, length, unwrap_or, refl, sym, ap, ◌∙◌, arith}
 use Rattle.std.specs.Prelude.{IfSome, IfNone}
 use Rattle.std.proofs.lemmas.Bool.Decides.{nat_tests}
 use Rattle.std.proofs.lemmas.Nat.{and_mask}
@@ -104,6 +104,3 @@ painted_by-use s (Some (Release lock)) address there = refl
 painted_by-use s (Some (Enter context)) address there = refl
 painted_by-use s (Some (Check start size)) address there = refl
 painted_by-use s (Some (Guard start size lock)) address there = refl
-
-pub length_painted : (old new : Shade) (from to value : ℕ) → new ≡ painted old from to value → length new.bytes ≡ length old.bytes
-length_painted old new from to value is = ap (λ s. length s.bytes) is ∙ length-painted_from RAM_START from to value old.bytes

@@ -72,7 +72,7 @@ impl Watcher for Redzones {
 impl Redzones {
     /// Nothing seen yet, of a guest with `ram_kib` KiB of RAM; its image does not matter. It is the only call that takes
     /// memory.
-    #[tactic(auto, using(crate::proofs::UseLaws::length_painted))]
+    #[tactic(auto, using(shadow_state::proofs::SizeLaws::length_painted))]
     pub fn new(alloc: Global, image: &Image, ram_kib: u32) -> Result<Redzones, NoMemory>
         requires least { 64 ≤ ram_kib }
         requires most { ram_kib ≤ 16384 }
@@ -217,7 +217,7 @@ impl Redzones {
     }
 
     // Gives the bytes of an announced block their uses.
-    #[tactic(auto, using(crate::proofs::UseLaws::length_painted))]
+    #[tactic(auto, using(shadow_state::proofs::SizeLaws::length_painted))]
     fn paint(&mut self, announced: Option<Announcement>)
         ensures { self.new ≡ record self.old { shade = painted_by self.old.shade announced } }
     {

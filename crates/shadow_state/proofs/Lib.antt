@@ -1,3 +1,4 @@
 mod FillLaws
 pub mod LeastLaws
 pub mod PaintLaws
+pub mod SizeLaws

@@ -1,2 +1,2 @@
 mod MarkLaws
-
+mod StandsLaws

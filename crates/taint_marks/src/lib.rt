@@ -3,6 +3,8 @@
 
 mod shared;
 mod taint;
+#[cfg(test)]
+mod tests;
 mod writes;
 
 pub use taint::Taint;

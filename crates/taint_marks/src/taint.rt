@@ -255,7 +255,9 @@ impl Taint {
     {
         match access {
             Access::Load {
-                device: true, mark, ..
+                device: true,
+                mark,
+                ..
             } => to_register(rd, mark),
             Access::Load {
                 address,
@@ -307,13 +309,14 @@ impl Taint {
     }
 
     // The mark of what is made of these bytes.
+    #[tactic(auto, using(crate::proofs::MarkLaws::bytes_more))]
     fn bytes(&self, address: u32, width: u32) -> u8
         requires { InRam (1024 * self.now.ram_kib) address width }
         ensures { result ≡ union_of (mark_now self.now) (bytes_from address width) }
     {
         let mut mark = 0;
         for index in (0..width).rev() {
-            mark |= self.shadow.get(address + index);
+            mark = self.shadow.get(address + index) | mark;
         }
         mark
     }

@@ -1,5 +1,5 @@
 use Rattle.std.proofs.Common.{◌∙◌}
-use Rattle.redzones.proofs.UseLaws.{length_painted}
+use Rattle.shadow_state.proofs.SizeLaws.{length_painted}
 use Rattle.redzones.proofs.zones.Redzones.paint.Goals as goal
 
 pub invariant_of-self : goal.invariant_of-self
