@@ -31,8 +31,11 @@ pc_of (Trap step pc word cause value next) = pc
 pc_of (Exec step pc word next result access told) = pc
 
 -- a finding is a complaint at the step and the pc of its event
+abbrev pub finding_at : (step pc : ℕ) → Complaint → Finding
+finding_at step pc complaint = record { step = step; pc = pc; kind = complaint.kind; address = complaint.address }
+
 abbrev pub finding_of : Event → Complaint → Finding
-finding_of event complaint = record { step = step_of event; pc = pc_of event; kind = complaint.kind; address = complaint.address }
+finding_of event complaint = finding_at (step_of event) (pc_of event) complaint
 
 abbrev pub found_at : (List Event → Event → Option Complaint) → List Event → Event → Option Finding
 found_at look before event = option_map (finding_of event) (look before event)

@@ -4,7 +4,10 @@ use Rattle.std.specs.Prelude.{ℕ, ◌+◌, ◌==◌, List, [], ◌∷◌, if◌
 use Rattle.run_events.specs.declared.finding.Kind.{Kind}
 use Rattle.run_events.specs.declared.finding.Kind.TheVariants.{Heap, Taint, Calls, Cover, Locks}
 use Rattle.machine_model.specs.Image.{Image, Segment}
+use Rattle.analysis_model.specs.Calls.{frames_kept}
+use Rattle.analysis_model.specs.Complaints.{Guest}
 use Rattle.analysis_model.specs.Cover.{Span}
+use Rattle.analysis_model.specs.Locks.{locks_kept}
 
 abbrev pub code_numbers : List Segment → List ℕ
 code_numbers [] = []
@@ -35,3 +38,7 @@ spans_made_of (address ∷ size ∷ numbers) = record { from = address; to = add
 abbrev pub code_made_of : List ℕ → List Span
 code_made_of [] = []
 code_made_of (kind ∷ numbers) = spans_made_of numbers
+
+-- a guest of so many KiB of RAM whose analysis is made of these, at the sizes that analyses have
+abbrev pub guest_made_of : ℕ → List ℕ → Guest
+guest_made_of ram_kib made = record { code = code_made_of made; ram_kib = ram_kib; frames = frames_kept; locks = locks_kept }

@@ -1,5 +1,5 @@
 -- Marked input: where its marks go, and where they may not go.
-use Rattle.std.specs.Prelude.{ℕ, zero, suc, ◌+◌, Bool, true, false, not, ◌&&◌, ◌==◌, nat_le, bit_or, List, [], ◌∷◌, ◌++◌, Option, None, Some, min, if◌then◌else◌}
+use Rattle.std.specs.Prelude.{ℕ, zero, suc, ◌+◌, Bool, true, false, not, ◌&&◌, ◌==◌, nat_le, bit_or, List, [], ◌∷◌, Option, None, Some, min, if◌then◌else◌}
 use Rattle.std.specs.Option.{option_map, option_or}
 use Rattle.list_laws.specs.Least.{is_between}
 use Rattle.run_events.specs.declared.access.Access.{Access}
@@ -19,7 +19,7 @@ use Rattle.rv_decode.specs.declared.operations.CsrOp.TheVariants.{Csrrw, Csrrs, 
 use Rattle.rv_decode.specs.declared.operations.RegOp.{RegOp}
 use Rattle.rv_decode.specs.declared.operations.RegOp.TheVariants.{Xor, Sub}
 use Rattle.rv_decode.specs.Listing.{instruction}
-use Rattle.analysis_model.specs.InRam.{least_in_ram}
+use Rattle.analysis_model.specs.InRam.{least_in_ram, IsByteOf}
 use Rattle.analysis_model.specs.Look.{Complaint}
 
 -- what has a mark: a register, mscratch, or a byte of RAM
@@ -27,6 +27,12 @@ pub data Place : Type 0 where
   Register : ℕ → Place
   Scratch : Place
   Byte : ℕ → Place
+
+-- it is one of a machine with so many KiB of RAM
+abbrev pub IsPlace : ℕ → Place → Type 0
+IsPlace kib (Register n) = Unit {0}
+IsPlace kib Scratch = Unit {0}
+IsPlace kib (Byte address) = IsByteOf kib address
 
 -- where a new mark comes from: from outside, or from the marks of these places
 pub data Sources : Type 0 where
@@ -93,7 +99,7 @@ abbrev pub atomic_writes : AtomicOp → ℕ → ℕ → Access → Writes
 atomic_writes Lr rd rs2 access = with_result rd (loaded access) no_writes
 atomic_writes Sc rd rs2 access = with_result rd (Some unmarked) (writes_bytes access (register rs2))
 atomic_writes Swap rd rs2 access = with_result rd (Some (From (old_bytes access))) (writes_bytes access (register rs2))
-atomic_writes _ rd rs2 access = with_result rd (Some (From (old_bytes access))) (writes_bytes access (From (old_bytes access ++ Register rs2 ∷ [])))
+atomic_writes _ rd rs2 access = with_result rd (Some (From (old_bytes access))) (writes_bytes access (From (Register rs2 ∷ old_bytes access)))
 
 -- mscratch; setting and clearing bits of an immediate keeps its mark, and register 0 makes it no write
 abbrev pub scratch_writes : CsrOp → ℕ → Option Sources
@@ -182,9 +188,12 @@ abbrev pub bad_jump : ℕ → Complaint
 bad_jump next = record { kind = finding.Jump; address = next }
 
 -- a jump to a marked address
+abbrev pub is_marked_jump : (Place → ℕ) → Option Instr → Bool
+is_marked_jump marks (Some (Jalr rd rs1 imm)) = is_marked (marks (Register rs1))
+is_marked_jump marks _ = false
+
 abbrev pub jump : (Place → ℕ) → Option Instr → ℕ → Option Complaint
-jump marks (Some (Jalr rd rs1 imm)) next = if is_marked (marks (Register rs1)) then Some (bad_jump next) else None
-jump marks _ next = None
+jump marks instr next = if is_marked_jump marks instr then Some (bad_jump next) else None
 
 abbrev pub leaked : ℕ → Complaint
 leaked address = record { kind = finding.Leak; address = address }

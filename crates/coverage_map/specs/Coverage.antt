@@ -1,9 +1,8 @@
 -- What coverage keeps, what it stands for, and what it tells.
-use Rattle.std.specs.Prelude.{◌≡◌, ℕ, ◌+◌, ◌-◌, ◌*◌, ◌/◌, Bool, true, ◌&&◌, nat_le, nat_lt, List, [], ◌∷◌, length, slice_set, Option, None, Some, if◌then◌else◌}
+use Rattle.std.specs.Prelude.{◌≡◌, ℕ, ◌+◌, ◌-◌, ◌*◌, ◌/◌, Bool, true, ◌&&◌, nat_le, nat_lt, List, [], ◌∷◌, length, slice_set, if◌then◌else◌}
 use Rattle.memory_map.specs.declared.TheConstants.{RAM_START}
 use Rattle.run_events.specs.declared.event.Event.{Event}
 use Rattle.run_events.specs.declared.event.Event.TheVariants.{Dma, Irq, Trap, Exec}
-use Rattle.run_events.specs.declared.finding.Finding.{Finding}
 use Rattle.run_events.specs.declared.finding.Kind.TheVariants.{Cover}
 use Rattle.analysis_model.specs.Cover.{executed_pcs, outside_at, runs}
 use Rattle.analysis_model.specs.Findings.{findings}

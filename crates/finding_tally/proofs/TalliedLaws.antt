@@ -1,5 +1,5 @@
 -- A tally with one finding more.
-use Rattle.std.proofs.Common.{◌≡◌, ℕ, ◌+◌, ◌-◌, ◌^◌, ◌<◌, ◌≤◌, min, List, [], ◌∷◌, ◌++◌, Some, unwrap_or, length, take, set, Option, None, refl, sym, ◌∙◌, arith, length-append, append-nil}
+use Rattle.std.proofs.Common.{◌≡◌, ℕ, ◌+◌, ◌-◌, ◌^◌, ◌<◌, ◌≤◌, min, List, [], ◌∷◌, ◌++◌, Option, None, Some, unwrap_or, length, take, set, refl, sym, ◌∙◌, arith, length-append, append-nil}
 use Rattle.std.specs.List.{cons_option}
 use Rattle.std.proofs.lemmas.Bool.{cases_lt}
 use Rattle.std.proofs.lemmas.List.{take_more_set, length-take, take_all, take-append-le, take-take}
@@ -26,7 +26,7 @@ tallied_more old new finding effect found tallies =
     let front = take_front 64 found (finding ∷ []) in
     rw (effect, tallies) (cc)
 
--- and with that of an event, which has one or none
+-- and one with a finding or none
 pub tallied_with-more : (t : Tallied) (found : List Finding) (finding : Option Finding) → Tallies t found → Tallies (tallied_with t finding) (found ++ cons_option finding [])
 tallied_with-more t found None h = rw (append-nil found) h
 tallied_with-more t found (Some finding) h = tallied_more t _ finding refl found h

@@ -25,7 +25,7 @@ with_finding t finding = record {
   kept = take 64 (t.kept ++ finding ∷ []);
 }
 
--- after an event that has a finding, or none
+-- and after one, or none
 abbrev pub tallied_with : Tallied → Option Finding → Tallied
 tallied_with t None = t
 tallied_with t (Some finding) = with_finding t finding

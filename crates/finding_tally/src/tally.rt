@@ -56,12 +56,13 @@ impl Tally {
         self.used = keep(&mut self.places, self.used, finding);
     }
 
-    /// Adds the finding of the next event, where it has one.
+    /// Adds the next finding, where there is one.
     pub fn note(&mut self, finding: Option<Finding>)
         ensures { self.new ≡ tallied_with self.old finding }
     {
-        if let Some(finding) = finding {
-            self.add(finding);
+        match finding {
+            Some(finding) => self.add(finding),
+            None => {}
         }
     }
 

@@ -1,4 +1,6 @@
 //! What an instruction does to memory and devices.
+ghost use Rattle.std.specs.Prelude.{◌≡◌};
+ghost use Rattle.run_events.specs.Access as accesses;
 
 /// What the argument registers x10, x11 and x12 held before an instruction.
 #[derive(Clone, Copy, Debug, PartialEq, Eq)]
@@ -35,4 +37,39 @@ pub enum Access {
         old: u32,
         new: u32,
     },
+}
+
+impl Access {
+    /// The address of the first byte that is touched; 0 where none is.
+    pub fn touched_from(&self) -> u32
+        ensures { result ≡ accesses.touched_from self.now }
+    {
+        match self {
+            Access::Quiet => 0,
+            Access::Load { address, .. }
+            | Access::Store { address, .. }
+            | Access::Swap { address, .. } => *address,
+        }
+    }
+
+    /// How many bytes are touched.
+    pub fn touched_len(&self) -> u32
+        ensures { result ≡ accesses.touched_len self.now }
+    {
+        match self {
+            Access::Quiet => 0,
+            Access::Load { width, .. } | Access::Store { width, .. } => *width,
+            Access::Swap { .. } => 4,
+        }
+    }
+
+    /// Whether they are a device's.
+    pub fn is_of_device(&self) -> bool
+        ensures { result ≡ accesses.is_of_device self.now }
+    {
+        match self {
+            Access::Load { device, .. } | Access::Store { device, .. } => *device,
+            Access::Quiet | Access::Swap { .. } => false,
+        }
+    }
 }

@@ -1,2 +1,4 @@
-pub mod PaintLaws
 mod FillLaws
+pub mod LeastLaws
+pub mod PaintLaws
+pub mod SizeLaws

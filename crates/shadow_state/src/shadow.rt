@@ -1,5 +1,5 @@
 //! The shadow of RAM.
-ghost use Rattle.std.specs.Prelude.{◌≡◌, ℕ, ◌+◌, ◌-◌, ◌*◌, ◌^◌, ◌<◌, ◌≤◌, true, min, List, [], ◌∷◌, ◌++◌, length, take, drop, replicate, IfOk, IfSome, IfNone};
+ghost use Rattle.std.specs.Prelude.{◌≡◌, ℕ, ◌+◌, ◌-◌, ◌*◌, ◌^◌, ◌<◌, ◌≤◌, true, min, List, [], ◌∷◌, ◌++◌, length, take, drop, replicate, slice_index, IfOk, IfSome, IfNone};
 ghost use Rattle.memory_map.specs.declared.TheConstants.{RAM_START};
 ghost use Rattle.shadow_state.specs.Shade.{Shade, Paint, shade, has_byte, painted_from, painted, last_paint, IsPainted, IsLeast, NoneBetween};
 ghost use Rattle.shadow_state.specs.Places.{IsFirstPlace, NoPlace};
@@ -67,6 +67,7 @@ impl Shadow {
     pub fn first_of(&self, from: u64, to: u64, set: u8) -> Option<u32>
         ensures least { IfSome result (λ address. IsLeast self.now from to set address) }
         ensures none { IfNone result (NoneBetween self.now set from to) }
+        ensures bytes { (address : ℕ) → shade self.now address < 2 ^ 8 }
     {
         let start = place_of(from, self.bytes.len());
         let end = place_of(to, self.bytes.len());
@@ -111,6 +112,7 @@ fn first_place(bytes: &[u8], start: usize, end: usize, set: u8) -> Option<usize>
     requires { end ≤ length bytes.now }
     ensures first { IfSome result (λ place. IsFirstPlace bytes.now start end set place) }
     ensures none { IfNone result (NoPlace bytes.now set start end) }
+    ensures bytes { (place : ℕ) → slice_index bytes.now place < 2 ^ 8 }
 {
     for place in start..end {
         if bytes[place] & set != 0 {

@@ -1,0 +1,2 @@
+mod UseLaws
+mod StandsLaws

@@ -1,0 +1,10 @@
+//! Marked input: which registers and bytes of RAM hold what came from it, and where that goes wrong.
+#![tactic(auto)]
+
+mod shared;
+mod taint;
+#[cfg(test)]
+mod tests;
+mod writes;
+
+pub use taint::Taint;
