@@ -1,6 +1,7 @@
 -- What a shadow keeps of each byte of RAM, and what a paint makes of it.
 use Rattle.std.specs.Prelude.{◌≡◌, ℕ, ◌+◌, ◌-◌, ◌<◌, ◌≤◌, ◌≢◌, Bool, true, ◌&&◌, nat_le, nat_lt, List, [], ◌∷◌, length, slice_index, if◌then◌else◌}
 use Rattle.std.specs.Int.Bits.{bit_and}
+use Rattle.list_laws.specs.Least.{is_between}
 use Rattle.memory_map.specs.declared.TheConstants.{RAM_START}
 use Rattle.memory_map.specs.Ram.{in_ram}
 
@@ -18,7 +19,7 @@ has_byte s address = in_ram (length s.bytes) address 1
 
 -- the range [from, to) has this address
 abbrev pub covers : ℕ → ℕ → ℕ → Bool
-covers from to address = nat_le from address && nat_lt address to
+covers from to address = is_between from to address
 
 -- of bytes from an address on, those that the range [from, to) covers have the value, and the others stay
 unfoldable pub painted_from : ℕ → ℕ → ℕ → ℕ → List ℕ → List ℕ
