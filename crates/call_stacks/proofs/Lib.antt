@@ -1,2 +1,3 @@
+pub mod PlainLaws
 mod RingLaws
 mod StackLaws

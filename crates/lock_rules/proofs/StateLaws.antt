@@ -15,7 +15,7 @@ use Rattle.run_events.specs.Access.{touched_from, touched_len}
 use Rattle.run_events.specs.Announcement.{announced_by, announced}
 use Rattle.analysis_model.specs.Context.{entered, context_after}
 use Rattle.analysis_model.specs.Locks.{Guarded, named, named_by, counted, has_lock, guard_at, guard_by, guards, holder_after, is_unguarded, bad_access, lock_by, access_by, locks, locks_kept}
-use Rattle.analysis_model.specs.Look.{Complaint, told_at, finding_of, found_at}
+use Rattle.analysis_model.specs.Look.{Complaint, told_at, finding_at, finding_of, found_at}
 use Rattle.analysis_model.proofs.ContextLaws.{context-more}
 use Rattle.analysis_model.proofs.LookLaws.{told_at-more}
 use Rattle.std.proofs.lemmas.List.{reverse-reverse}
@@ -24,7 +24,7 @@ use Rattle.finding_tally.proofs.TalliedLaws.{tallied_with-more}
 use Rattle.lock_rules.specs.declared.lock.Lock.{Lock}
 use Rattle.lock_rules.specs.declared.guard.Guard.{Guard}
 use Rattle.lock_rules.specs.Entries.{numbers, holder_of, is_open, range_of}
-use Rattle.lock_rules.specs.State.{LockState, Stands, AreHeld, locks_found, known_with, known_after, held_after, guards_after, told_state, finding_at, heard, opened, noted, after}
+use Rattle.lock_rules.specs.State.{LockState, Stands, AreHeld, locks_found, known_with, known_after, held_after, guards_after, told_state, heard, opened, noted, after}
 use Rattle.lock_rules.proofs.CountedLaws.{counted_with, counted-more, numbers-known}
 use Rattle.lock_rules.proofs.HeldLaws.{AreHeldNow, held-known, held-after, numbers-held, held-of, lock_by-same}
 use Rattle.lock_rules.proofs.GuardLaws.{ArePlaced, open-unguarded, ranges-known, ranges-after, placed-after}

@@ -13,7 +13,7 @@ use Rattle.run_events.specs.Access.{touched_from, touched_len}
 use Rattle.run_events.specs.Announcement.{announced_by}
 use Rattle.analysis_model.specs.Context.{entered, context_after}
 use Rattle.analysis_model.specs.Locks.{named_by, counted, has_lock, guard_at, holder_after, bad_access, lock_by, locks, locks_kept}
-use Rattle.analysis_model.specs.Look.{Complaint, told_at, found_at}
+use Rattle.analysis_model.specs.Look.{Complaint, told_at, finding_at, found_at}
 use Rattle.finding_tally.specs.Tallied.{Tallied, Tallies, tallied_with}
 use Rattle.lock_rules.specs.declared.lock.Lock.{Lock}
 use Rattle.lock_rules.specs.declared.guard.Guard.{Guard}
@@ -79,10 +79,6 @@ told_state s told = record s {
   locks = held_after s.context told (known_after s.locks told);
   guards = guards_after (known_after s.locks told) s.guards told;
 }
-
--- a finding is a complaint at a step and its pc
-abbrev pub finding_at : ℕ → ℕ → Complaint → Finding
-finding_at step pc complaint = record { step = step; pc = pc; kind = complaint.kind; address = complaint.address }
 
 -- what there is to complain of an announcement, and of an access
 abbrev pub heard : LockState → Option Announcement → Option Complaint

@@ -5,5 +5,7 @@ mod guard;
 mod lock;
 mod locks;
 mod shared;
+#[cfg(test)]
+mod tests;
 
 pub use locks::Locks;

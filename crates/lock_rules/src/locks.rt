@@ -5,11 +5,11 @@ ghost use Rattle.std.specs.List.{position_from};
 ghost use Rattle.run_events.specs.declared.announcement.Announcement.TheVariants as announce;
 ghost use Rattle.run_events.specs.declared.event.Event.{Event};
 ghost use Rattle.run_events.specs.declared.finding.Kind.TheVariants.{Locks as locks_kind};
-ghost use Rattle.run_events.specs.Access.{touched_from, touched_len};
 ghost use Rattle.analysis_model.specs.Findings.{first_step, tally, kept};
 ghost use Rattle.analysis_model.specs.Locks.{locks_kept, bad_acquire, bad_release};
 ghost use Rattle.analysis_model.specs.Made.{make_of};
-ghost use Rattle.lock_rules.specs.State.{Stands, make_now, locks_found, known_with, guards_with, told_state, finding_at, heard, opened, noted, after};
+ghost use Rattle.analysis_model.specs.Look.{finding_at};
+ghost use Rattle.lock_rules.specs.State.{Stands, make_now, locks_found, known_with, guards_with, told_state, heard, opened, noted, after};
 
 use crate::guard::{Guard, least_open};
 use crate::lock::{Lock, holder_of, is_held_by, is_known, place_of, set_holder};
@@ -36,6 +36,7 @@ const KEPT: usize = 256;
 impl Model for Locks {
     ghost use Rattle.std.specs.Prelude.{◌≡◌};
     ghost use Rattle.std.specs.Vec.{vec_capacity};
+    ghost use Rattle.analysis_model.specs.Look.{finding_at};
     ghost use Rattle.lock_rules.specs.State.{LockState};
 
     ghost Value = { LockState };
@@ -122,7 +123,7 @@ impl Locks {
     fn look(&self, step: u32, pc: u32, access: Access) -> Option<Finding>
         ensures { result ≡ option_map (finding_at step pc) (opened self.now access) }
     {
-        let (from, size) = touched(access);
+        let (from, size) = (access.touched_from(), access.touched_len());
         match least_open(&self.locks, &self.guards, self.context, from, size) {
             None => None,
             Some(address) => Some(Finding {
@@ -243,19 +244,5 @@ impl Locks {
         if context <= 63 {
             self.context = context;
         }
-    }
-}
-
-// The first byte that an access touches, and how many.
-fn touched(access: Access) -> (u32, u32)
-    ensures from { result.0 ≡ touched_from access }
-    ensures size { result.1 ≡ touched_len access }
-{
-    match access {
-        Access::Quiet => (0, 0),
-        Access::Load { address, width, .. } | Access::Store { address, width, .. } => {
-            (address, width)
-        }
-        Access::Swap { address, .. } => (address, 4),
     }
 }

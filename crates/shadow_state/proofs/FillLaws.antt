@@ -2,16 +2,15 @@
 use Rattle.std.proofs.Common.{◌≡◌, ℕ, suc, ◌+◌, ◌-◌, ◌<◌, ◌≤◌, true, false, if◌then◌else◌, List, [], ◌∷◌, ◌++◌, length, take, drop, replicate, min, max, refl, sym, ap, ◌∙◌, arith, length-take, length-drop}
 use Rattle.std.proofs.lemmas.Bool.Decides.{nat_tests}
 use Rattle.std.proofs.lemmas.List.{take-append-drop, drop-drop}
-use Rattle.list_laws.specs.Least.{is_between}
 use Rattle.memory_map.specs.declared.TheConstants.{RAM_START}
-use Rattle.shadow_state.specs.Shade.{painted_from}
+use Rattle.shadow_state.specs.Shade.{covers, painted_from}
 
 painted_from-append : (address from to value : ℕ) (xs ys : List ℕ) → painted_from address from to value (xs ++ ys) ≡ painted_from address from to value xs ++ painted_from (address + length xs) from to value ys
 unfolding painted_from
 painted_from-append address from to value [] ys = ap (λ a. painted_from a from to value ys) (omega arith)
 painted_from-append address from to value (x ∷ xs) ys =
     let next : address + 1 + length xs ≡ address + suc (length xs) = omega arith in
-    ap (λ l. (if is_between from to address then value else x) ∷ l) (painted_from-append (address + 1) from to value xs ys ∙ ap (λ a. painted_from (address + 1) from to value xs ++ painted_from a from to value ys) next)
+    ap (λ l. (if covers from to address then value else x) ∷ l) (painted_from-append (address + 1) from to value xs ys ∙ ap (λ a. painted_from (address + 1) from to value xs ++ painted_from a from to value ys) next)
 
 -- bytes before the range stay
 painted_from-before : (address from to value : ℕ) (xs : List ℕ) → (0 < length xs → address + length xs ≤ from) → painted_from address from to value xs ≡ xs
@@ -19,7 +18,7 @@ unfolding painted_from
 painted_from-before address from to value [] h = refl
 painted_from-before address from to value (x ∷ xs) h =
     let far : address + suc (length xs) ≤ from = h (omega arith) in
-    let out : is_between from to address ≡ false = grind (arith, nat_tests) in
+    let out : covers from to address ≡ false = grind (arith, nat_tests) in
     rw out (ap (λ l. x ∷ l) (painted_from-before (address + 1) from to value xs (λ _. omega arith)))
 
 -- bytes after it stay
@@ -28,7 +27,7 @@ unfolding painted_from
 painted_from-after address from to value [] h = refl
 painted_from-after address from to value (x ∷ xs) h =
     let far : to ≤ address = h (omega arith) in
-    let out : is_between from to address ≡ false = grind (arith, nat_tests) in
+    let out : covers from to address ≡ false = grind (arith, nat_tests) in
     rw out (ap (λ l. x ∷ l) (painted_from-after (address + 1) from to value xs (λ _. omega arith)))
 
 -- bytes in it have the value
@@ -38,7 +37,7 @@ painted_from-inside address from to value [] g h = refl
 painted_from-inside address from to value (x ∷ xs) g h =
     let near : from ≤ address = g (omega arith) in
     let far : address + suc (length xs) ≤ to = h (omega arith) in
-    let inside : is_between from to address ≡ true = grind (arith, nat_tests) in
+    let inside : covers from to address ≡ true = grind (arith, nat_tests) in
     rw inside (ap (λ l. value ∷ l) (painted_from-inside (address + 1) from to value xs (λ _. omega arith) (λ _. omega arith)))
 
 -- a list in three parts

@@ -1,9 +1,8 @@
 -- What a paint makes of each byte.
 use Rattle.std.proofs.Common.{◌≡◌, ℕ, zero, suc, ◌+◌, ◌-◌, ◌<◌, ◌≤◌, true, nat_le, if◌then◌else◌, List, [], ◌∷◌, length, get_or, refl, sym, ap, ◌∙◌, arith}
 use Rattle.std.proofs.lemmas.Bool.Decides.{nat_tests}
-use Rattle.list_laws.specs.Least.{is_between}
 use Rattle.memory_map.specs.declared.TheConstants.{RAM_START}
-use Rattle.shadow_state.specs.Shade.{Shade, Paint, shade, has_byte, painted_from, painted, IsPainted}
+use Rattle.shadow_state.specs.Shade.{Shade, Paint, shade, has_byte, covers, painted_from, painted, IsPainted}
 
 -- a paint changes no length
 pub length-painted_from : (address from to value : ℕ) (bytes : List ℕ) → length (painted_from address from to value bytes) ≡ length bytes
@@ -11,23 +10,23 @@ unfolding painted_from
 length-painted_from address from to value [] = refl
 length-painted_from address from to value (byte ∷ bytes) = ap suc (length-painted_from (address + 1) from to value bytes)
 
-get_or-painted_from : (address from to value : ℕ) (bytes : List ℕ) (place : ℕ) → place < length bytes → get_or (painted_from address from to value bytes) place 0 ≡ (if is_between from to (address + place) then value else get_or bytes place 0)
+get_or-painted_from : (address from to value : ℕ) (bytes : List ℕ) (place : ℕ) → place < length bytes → get_or (painted_from address from to value bytes) place 0 ≡ (if covers from to (address + place) then value else get_or bytes place 0)
 unfolding painted_from
 get_or-painted_from address from to value [] place h = absurd (omega arith)
-get_or-painted_from address from to value (byte ∷ bytes) zero h = ap (λ a. if is_between from to a then value else byte) (omega arith)
+get_or-painted_from address from to value (byte ∷ bytes) zero h = ap (λ a. if covers from to a then value else byte) (omega arith)
 get_or-painted_from address from to value (byte ∷ bytes) (suc place) h =
     let next : address + 1 + place ≡ address + suc place = omega arith in
-    get_or-painted_from (address + 1) from to value bytes place (omega arith) ∙ ap (λ a. if is_between from to a then value else get_or bytes place 0) next
+    get_or-painted_from (address + 1) from to value bytes place (omega arith) ∙ ap (λ a. if covers from to a then value else get_or bytes place 0) next
 
 -- after a paint a byte of RAM is the value where the range covers it, else as before
-pub painted-at : (s : Shade) (from to value address : ℕ) → has_byte s address ≡ true → shade (painted s from to value) address ≡ (if is_between from to address then value else shade s address)
+pub painted-at : (s : Shade) (from to value address : ℕ) → has_byte s address ≡ true → shade (painted s from to value) address ≡ (if covers from to address then value else shade s address)
 painted-at s from to value address there =
     let above : RAM_START ≤ address = grind (arith, there) in
     let room : address - RAM_START < length s.bytes = grind (arith, there) in
     let same : RAM_START + (address - RAM_START) ≡ address = omega arith in
     let painted_byte = get_or-painted_from RAM_START from to value s.bytes (address - RAM_START) room in
     let start : nat_le RAM_START address ≡ true = grind (arith, nat_tests) in
-    rw start (painted_byte ∙ ap (λ a. if is_between from to a then value else get_or s.bytes (address - RAM_START) 0) same)
+    rw start (painted_byte ∙ ap (λ a. if covers from to a then value else get_or s.bytes (address - RAM_START) 0) same)
 
 -- a paint leaves the same bytes in RAM
 pub has_byte-painted : (s : Shade) (from to value address : ℕ) → has_byte (painted s from to value) address ≡ has_byte s address
@@ -40,4 +39,4 @@ IsPainted-more old new from to value effect paints before = rw effect painted_so
     painted_so : IsPainted (painted old from to value) (record { from = from; to = to; value = value } ∷ paints)
     painted_so address there =
         let there_before : has_byte old address ≡ true = sym (has_byte-painted old from to value address) ∙ there in
-        painted-at old from to value address there_before ∙ ap (λ v. if is_between from to address then value else v) (before address there_before)
+        painted-at old from to value address there_before ∙ ap (λ v. if covers from to address then value else v) (before address there_before)

@@ -17,10 +17,14 @@ shade s address = if nat_le RAM_START address then slice_index s.bytes (address 
 abbrev pub has_byte : Shade → ℕ → Bool
 has_byte s address = in_ram (length s.bytes) address 1
 
+-- the range [from, to) has this address
+abbrev pub covers : ℕ → ℕ → ℕ → Bool
+covers from to address = is_between from to address
+
 -- of bytes from an address on, those that the range [from, to) covers have the value, and the others stay
 unfoldable pub painted_from : ℕ → ℕ → ℕ → ℕ → List ℕ → List ℕ
 painted_from address from to value [] = []
-painted_from address from to value (byte ∷ bytes) = (if is_between from to address then value else byte) ∷ painted_from (address + 1) from to value bytes
+painted_from address from to value (byte ∷ bytes) = (if covers from to address then value else byte) ∷ painted_from (address + 1) from to value bytes
 
 -- the bytes of RAM that the range [from, to) covers have the value, and the others stay
 abbrev pub painted : Shade → ℕ → ℕ → ℕ → Shade
@@ -36,7 +40,7 @@ pub record Paint : Type 0 where
 -- and 0 where none does
 abbrev pub last_paint : List Paint → ℕ → ℕ
 last_paint [] address = 0
-last_paint (last ∷ before) address = if is_between last.from last.to address then last.value else last_paint before address
+last_paint (last ∷ before) address = if covers last.from last.to address then last.value else last_paint before address
 
 -- it was painted so, and no more: each byte of RAM has the value that the last paint left
 abbrev pub IsPainted : Shade → List Paint → Type 0
