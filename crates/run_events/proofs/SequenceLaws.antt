@@ -5,7 +5,7 @@ use Rattle.run_events.specs.declared.record.Record.{Record}
 use Rattle.run_events.specs.Record.{number, rank, is_dma, is_end, dmas_at, is_admitted, is_ordered_back, reach_back, newest, newest_dmas, is_next_dma}
 use Rattle.run_events.proofs.RecordLaws.{admitted_rises}
 
--- none behind a list that comes less far
+-- none in a list that comes less far
 pub dmas_at-none : (n : ℕ) (items : List Record) → is_ordered_back items ≡ true → reach_back items < n → dmas_at n items ≡ 0
 dmas_at-none n [] is lt = refl
 dmas_at-none n (last ∷ before) is lt =
@@ -14,7 +14,7 @@ dmas_at-none n (last ∷ before) is lt =
     let other : (is_dma last && number last == n) ≡ false = grind (arith, lt) in
     ap (λ b. cond b (dmas_at n before + 1) (dmas_at n before)) other ∙ dmas_at-none n before parts.1 (omega (arith, le, lt))
 
--- what is admitted behind a record of the same number
+-- what is admitted after a record of the same number
 least_rank : (a b r q : ℕ) (e more : Bool) → (not e && (nat_lt a b || (nat_eq a b && (nat_lt r q || (nat_eq r 1 && more))))) ≡ true → nat_lt a b ≡ false → q ≡ 1 → nat_eq r 1 ≡ false → r ≡ 0
 least_rank a b r q e more is lt q_is r_is = grind (arith, is, lt, q_is, r_is)
 

@@ -46,7 +46,7 @@ abbrev pub dmas_at : ℕ → List Record → ℕ
 dmas_at step [] = 0
 dmas_at step (item ∷ items) = if is_dma item && number item == step then dmas_at step items + 1 else dmas_at step items
 
--- A record may stand behind these, of which the last is given first: nothing stands behind an end; the number does not
+-- A record may stand after these, of which the last is given first: nothing stands after an end; the number does not
 -- fall; among records of one number the rank rises, but for at most 128 words of the disk.
 abbrev pub is_admitted : List Record → Record → Bool
 is_admitted [] item = true
@@ -55,7 +55,7 @@ is_admitted (last ∷ before) item =
     && (nat_lt (number last) (number item)
     || (number last == number item && (nat_lt (rank last) (rank item) || (is_dma last && (is_dma item && nat_lt (dmas_at (number item) (last ∷ before)) 128)))))
 
--- each record, read from the last one back, is admitted behind those before it
+-- each record, read from the last one back, is admitted after those before it
 abbrev pub is_ordered_back : List Record → Bool
 is_ordered_back [] = true
 is_ordered_back (last ∷ before) = is_admitted before last && is_ordered_back before

@@ -43,7 +43,7 @@ mark_of (End step cause) = 0
 abbrev pub first_word : Record → ℕ
 first_word item = number item + 2 ^ 32 * kind item + 2 ^ 40 * mark_of item
 
--- a status is a byte, and the limit the number behind the greatest one
+-- a status is a byte, and the limit is the number after the greatest one
 abbrev pub cause_word : EndCause → ℕ
 cause_word (Power status) = status
 cause_word Limit = 256
