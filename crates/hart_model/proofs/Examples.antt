@@ -1,10 +1,12 @@
 -- Programs of a few words, worked by the definition.
 use Rattle.std.specs.Prelude.{◌≡◌, ℕ, List, [], ◌∷◌, ◌++◌, replicate, slice_index, None}
-use Rattle.std.proofs.Common.{zero, suc, refl}
+use Rattle.std.proofs.Common.{true, zero, suc, refl}
 use Rattle.std.specs.Int.{w32, to_le_bytes}
-use Rattle.memory_map.specs.declared.TheConstants.{RAM_START}
+use Rattle.memory_map.specs.Device.{is_device}
+use Rattle.memory_map.specs.declared.TheConstants.{RAM_START, POWER}
+use Rattle.run_events.specs.declared.access.Access.TheVariants.{Quiet, Store}
 use Rattle.run_events.specs.declared.event.Event.{Event}
-use Rattle.run_events.specs.declared.event.Event.TheVariants.{Trap}
+use Rattle.run_events.specs.declared.event.Event.TheVariants.{Exec, Irq, Trap}
 use Rattle.rv_csr.specs.Table
 use Rattle.rv_decode.specs.Listing
 use Rattle.rv_memory.specs.Ram.{filled, loaded}
@@ -95,3 +97,30 @@ events (suc left) s = (cpu s 0 None).0 ∷ events left (cpu s 0 None).1
 no_program : events 3 (started []) ≡ Trap 0 0x80000000 0 2 0 0 ∷ Trap 1 0 0 1 0 0 ∷ Trap 2 0 0 1 0 0 ∷ []
 unfolding cpu outcome step_by Listing.instruction Listing.rows events
 no_program = refl
+
+-- The handler's address 0x80000040 goes to mtvec, the timer's interrupt is enabled in mie, mtimecmp gets a value, and
+-- mstatus.MIE is set; then the program waits in a jump to itself. At the handler it stores 0 to the power register.
+abbrev waiting : State
+waiting =
+    after 10 (started (0x800002b7 ∷ 0x04028293 ∷ 0x30529073 ∷ 0x08000313 ∷ 0x30431073 ∷ 0x020043b7 ∷ 0x00500313 ∷ 0x0003a223 ∷ 0x0063a023 ∷ 0x30046073 ∷ 0x0000006f ∷ 0 ∷ 0 ∷ 0 ∷ 0 ∷ 0 ∷ 0x10100637 ∷ 0x00062023 ∷ []))
+
+-- with the timer's line up the interrupt is taken, and mepc is where the program waits
+interrupt : (cpu waiting 1 None).0 ≡ Irq 10 0x80000028 0x80000007 0x80000040
+unfolding cpu outcome step_by Listing.instruction Listing.rows Table.read Table.written Table.rows is_device
+interrupt = refl
+
+returns_to : (cpu waiting 1 None).1.csrs.mepc ≡ 0x80000028
+unfolding cpu outcome step_by Listing.instruction Listing.rows Table.read Table.written Table.rows is_device
+returns_to = refl
+
+-- in the handler interrupts are off, though the line is still up, and its second step is the store
+power_off :
+    (cpu (cpu (cpu waiting 1 None).1 1 None).1 1 None).0
+    ≡ Exec 12 0x80000044 0x00062023 0x80000048 0 (Store POWER 4 0 true) (record { a0 = 0; a1 = 0; a2 = 0x10100000 })
+unfolding cpu outcome step_by Listing.instruction Listing.rows Table.read Table.written Table.rows is_device
+power_off = refl
+
+-- without a line it waits on
+no_interrupt : (cpu waiting 0 None).0 ≡ Exec 10 0x80000028 0x0000006f 0x80000028 0 Quiet (record { a0 = 0; a1 = 0; a2 = 0 })
+unfolding cpu outcome step_by Listing.instruction Listing.rows Table.read Table.written Table.rows is_device
+no_interrupt = refl

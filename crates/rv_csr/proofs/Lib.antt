@@ -1,3 +1,4 @@
+mod ApartLaws
 pub mod CounterLaws
 mod Examples
 pub mod TableLaws

@@ -24,6 +24,7 @@ kept_aligned [] keeps c kept address value is aligned = cc
 kept_aligned (row ∷ others) keeps c kept address value is aligned =
     chosen (lies address row.place) (row.keeps c value) kept (kept_by others c address value) is (keeps.0 c value aligned) (λ rest. kept_aligned others keeps.1 c kept address value rest aligned)
 
+-- row by row; mepc's own row, the seventh, lowers what is written
 rows_aligned : AllByRecursion KeepsAligned rows
 unfolding rows
 rows_aligned =
