@@ -31,7 +31,17 @@ fn small_elf(alloc: Global) -> Result<Vec<u8>, AllocError> {
     put_words(&mut file, &[0x7000_0003, 0, 0, 0, 0, 0, 4, 1])?;
     put_words(&mut file, &[1, 148, 0x8000_0000, 0x8000_0000, 20, 32, 5, 4])?;
     put_words(&mut file, &[1, 168, 0x8000_1000, 0x8000_1000, 4, 8, 6, 4])?;
-    put_words(&mut file, &[0x1000_0537, 0x0480_0593, 0x00b5_0023, 0x1010_0637, 0x0006_2023, 0x0403_0201])?;
+    put_words(
+        &mut file,
+        &[
+            0x1000_0537,
+            0x0480_0593,
+            0x00b5_0023,
+            0x1010_0637,
+            0x0006_2023,
+            0x0403_0201,
+        ],
+    )?;
     Ok(file)
 }
 
@@ -46,7 +56,7 @@ fn fault_of(alloc: Global, file: &[u8]) -> Option<ImageFault> {
 fn changed(alloc: Global, at: usize, word: u32) -> Result<Vec<u8>, AllocError> {
     let mut file = small_elf(alloc)?;
     for (i, byte) in word.to_le_bytes().iter().enumerate() {
-        match file.get_mut(at + i) {
+        match file.get_mut(at.wrapping_add(i)) {
             Some(place) => *place = *byte,
             None => {}
         }
@@ -58,8 +68,14 @@ fn segments_are(rt: &impl Abort, image: &Image) {
     let found = image.segments.as_slice();
     match found {
         [code, data] => {
-            assert_eq!(rt; (code.address, code.bytes.len(), code.size, code.executable), (0x8000_0000, 20, 32, true));
-            assert_eq!(rt; (data.address, data.size, data.executable), (0x8000_1000, 8, false));
+            assert_eq!(rt;
+                (code.address, code.bytes.len(), code.size, code.executable),
+                (0x8000_0000, 20, 32, true)
+            );
+            assert_eq!(rt;
+                (data.address, data.size, data.executable),
+                (0x8000_1000, 8, false)
+            );
             assert_eq!(rt; data.bytes.as_slice(), [1u8, 2, 3, 4].as_slice());
         }
         _ => assert!(rt; false, "two segments"),
@@ -93,12 +109,35 @@ fn the_first_fault_is_named(rt: HostRuntime) -> Result<(), Fail> {
         (44, 0, Some(ImageFault::NoSegment)),
         (44, 65, Some(ImageFault::BadTable)),
         (42, 0x0003_0028, Some(ImageFault::BadTable)),
-        (28, 0xffff_ffff, Some(ImageFault::Short { need: 0x1_0000_005f })),
+        (
+            28,
+            0xffff_ffff,
+            Some(ImageFault::Short {
+                need: 0x1_0000_005f,
+            }),
+        ),
         (104, 16, Some(ImageFault::SegmentShape { index: 1 })),
-        (120, 0xffff_ffff, Some(ImageFault::Short { need: 0x1_0000_0003 })),
-        (128, 0x8000_001c, Some(ImageFault::Overlap { first: 1, second: 2 })),
+        (
+            120,
+            0xffff_ffff,
+            Some(ImageFault::Short {
+                need: 0x1_0000_0003,
+            }),
+        ),
+        (
+            128,
+            0x8000_001c,
+            Some(ImageFault::Overlap {
+                first: 1,
+                second: 2,
+            }),
+        ),
         (128, 0x8000_0020, None),
-        (128, 0x7fff_f000, Some(ImageFault::SegmentOutside { index: 2 })),
+        (
+            128,
+            0x7fff_f000,
+            Some(ImageFault::SegmentOutside { index: 2 }),
+        ),
         (24, 0x8000_0002, Some(ImageFault::EntryOutside)),
         (24, 0x8001_0000, Some(ImageFault::EntryOutside)),
     ];
@@ -123,7 +162,11 @@ fn a_cut_file_is_short(rt: HostRuntime) -> Result<(), Fail> {
             172
         };
         let cut = file.get(..length).unwrap_or(&[]);
-        assert_eq!(rt; fault_of(rt.alloc(), cut), Some(ImageFault::Short { need }), "{length}");
+        assert_eq!(rt;
+            fault_of(rt.alloc(), cut),
+            Some(ImageFault::Short { need }),
+            "{length}"
+        );
     }
     assert_eq!(rt; fault_of(rt.alloc(), &[0x7f, b'E', b'L']), None);
     Ok(())
@@ -134,6 +177,9 @@ fn a_flat_file_fits_the_ram(rt: HostRuntime) -> Result<(), Fail> {
     let fits = vec![in rt.alloc(); 0u8; 65536]?;
     assert_eq!(rt; fault_of(rt.alloc(), &fits), None);
     let longer = vec![in rt.alloc(); 0u8; 65537]?;
-    assert_eq!(rt; fault_of(rt.alloc(), &longer), Some(ImageFault::SegmentOutside { index: 0 }));
+    assert_eq!(rt;
+        fault_of(rt.alloc(), &longer),
+        Some(ImageFault::SegmentOutside { index: 0 })
+    );
     Ok(())
 }

@@ -3,3 +3,4 @@ pub mod ScriptParts
 pub mod ScriptLines
 pub mod ScriptPrinted
 pub mod ImageSteps
+pub mod ImageLaws

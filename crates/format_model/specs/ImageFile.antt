@@ -1,9 +1,10 @@
 -- Which bytes give which image for a RAM of a size, or the first fault in its order. (ELF32 little-endian; the places of
 -- the fields are those of the file layout.)
-use Rattle.std.specs.Prelude.{◌≡◌, ℕ, zero, suc, ◌+◌, ◌*◌, ◌%◌, Bool, not, ◌&&◌, ◌||◌, ◌==◌, nat_lt, nat_le, if◌then◌else◌, List, [], ◌∷◌, ◌++◌, length, map, take, drop, slice_index, Option, Some, None, Result, Ok, Err}
+use Rattle.std.specs.Prelude.{◌≡◌, ℕ, zero, suc, ◌+◌, ◌*◌, ◌%◌, ◌≤◌, Bool, false, not, ◌&&◌, ◌||◌, ◌==◌, nat_lt, nat_le, if◌then◌else◌, List, [], ◌∷◌, ◌++◌, length, map, take, drop, slice_index, Option, Some, None, Result, Ok, Err}
 use Rattle.std.specs.Int.{w32, from_le_bytes}
-use Rattle.memory_map.specs.Ram.{in_ram}
-use Rattle.machine_model.specs.Image.{Segment, Image, flat_image}
+use Rattle.std.specs.List.{AllByRecursion}
+use Rattle.memory_map.specs.Ram.{in_ram, InRam}
+use Rattle.machine_model.specs.Image.{Segment, Image, IsLoadable, flat_image}
 
 -- why a file gives no image
 pub data Fault : Type 0 where
@@ -125,3 +126,21 @@ image_in ram_kib file =
 -- the image was read for a RAM of this size
 abbrev pub WasRead : ℕ → Image → Type 0
 WasRead ram_kib image = (file : List ℕ) × (image_in ram_kib file ≡ Ok image)
+
+-- a segment stands in a RAM of this many bytes, with the bytes that the file gives for it
+pub record SegmentFits (size : ℕ) (segment : Segment) : Type 0 where
+  pub within : InRam size segment.address segment.size
+  pub given : length segment.bytes ≤ segment.size
+
+-- no segment shares an address with one before it
+abbrev pub ApartAfter : List Segment → List Segment → Type 0
+ApartAfter before [] = Unit {0}
+ApartAfter before (segment ∷ segments) = AllByRecursion (λ other. share other segment ≡ false) before × ApartAfter (before ++ segment ∷ []) segments
+
+-- an image fits a RAM of this many bytes: its segments stand there, apart, and it starts there, at a multiple of 4
+pub record ImageFits (size : ℕ) (image : Image) : Type 0 where
+  pub segments : AllByRecursion (SegmentFits size) image.segments
+  pub apart : ApartAfter [] image.segments
+  pub loadable : IsLoadable size image.segments
+  pub entry : InRam size image.entry 1
+  pub aligned : image.entry % 4 ≡ 0
