@@ -1,9 +1,10 @@
 -- What a board gives a machine is what a step may take: at most 128 words, each an aligned word in RAM; lines and marks
 -- that are in range.
 use Rattle.std.proofs.Common.{◌≡◌, ℕ, zero, suc, ◌+◌, ◌*◌, ◌%◌, ◌≤◌, Bool, true, false, List, [], ◌∷◌, ◌++◌, length, map, Option, Some, None, slice_get, refl, sym, ◌∙◌, ap, subst, arith, add-one}
-use Rattle.std.specs.Prelude.{IfSome, nat_le, if◌then◌else◌}
+use Rattle.std.specs.Prelude.{◌||◌, ◌==◌, is_some, nat_le, if◌then◌else◌}
 use Rattle.std.specs.Option.{option_and_then, option_map_or}
-use Rattle.std.specs.List.{AllByRecursion, flat_map}
+use Rattle.std.specs.List.{AllByRecursion, flat_map, list_any}
+use Rattle.memory_map.specs.Device.{is_device}
 use Rattle.memory_map.specs.Ram.{InRam}
 use Rattle.memory_map.proofs.RamLaws.{in_ram-InRam}
 use Rattle.run_events.specs.Record.{IsMark}
@@ -189,3 +190,16 @@ stored_option_way script step ram value b (Some register) way = stored_way scrip
 
 pub way_after_store : (script : Script) (step : ℕ) (ram : List ℕ) (b : Board.BoardState) (address value : ℕ) → Board.IsUnderWay (length ram) b.activity → Board.IsUnderWay (length ram) (Board.after_store script step ram b address value).activity
 way_after_store script step ram b address value way = stored_option_way script step ram value b (Board.register_at address) way
+
+-- the registers are where devices are accessed
+some_or : (here : Bool) (register : Board.Register) (others : Option Board.Register) (any : Bool) → any ≡ is_some others → (here || any) ≡ is_some (if here then Some register else others)
+some_or true register others any is = refl
+some_or false register others any is = is
+
+found_any : (address : ℕ) (places : List (ℕ × Board.Register)) → list_any (λ (place : ℕ). address == place) (map (λ (p : ℕ × Board.Register). p.0) places) ≡ is_some (Board.found_at address places)
+found_any address [] = refl
+found_any address ((place, register) ∷ others) = some_or (address == place) register (Board.found_at address others) _ (found_any address others)
+
+pub is_device_register : (address : ℕ) → is_device address ≡ is_some (Board.register_at address)
+unfolding is_device
+is_device_register address = found_any address Board.registers
