@@ -1,13 +1,13 @@
 -- A step that is cut in two is the step.
 use Rattle.std.proofs.Common.{◌≡◌, ◌∙◌, ℕ, true, false, refl, sym, Bool, ◌&&◌}
-use Rattle.std.specs.Prelude.{Option, None, Some, if◌then◌else◌}
+use Rattle.std.specs.Prelude.{None, Some, if◌then◌else◌}
 use Rattle.run_events.specs.declared.access.Told.{Told}
 use Rattle.run_events.specs.declared.event.Event.{Event}
 use Rattle.rv_decode.specs.declared.instruction.Instr.{Instr}
-use Rattle.hart_model.specs.Effect.{Effect, Outcome, Does, Raises}
+use Rattle.hart_model.specs.Effect.{Outcome, Does, Raises}
 use Rattle.hart_model.specs.State.{State, told_by}
 use Rattle.hart_model.specs.Step.{step_by}
-use Rattle.rv_cpu.specs.Midway.{Midway, midway, plainly, executed_plainly, refused, closed}
+use Rattle.rv_cpu.specs.Midway.{Midway, midway, executed_plainly, refused, closed}
 use Rattle.rv_cpu.specs.Plain.{is_plain_instr, is_plain_outcome}
 
 -- the end of an instruction midway is its step

@@ -10,7 +10,7 @@ use Rattle.hart_model.specs.Effect.{Outcome, Does, Raises}
 use Rattle.hart_model.specs.Fetch.{Fetch, Found, Outside, fetched}
 use Rattle.hart_model.specs.Machine.{hart}
 use Rattle.hart_model.specs.State.{State}
-use Rattle.hart_model.specs.Step.{cpu, step_by, outcome, need_of, need_of_access, after_decode, after_fetch, unless_interrupted}
+use Rattle.hart_model.specs.Step.{cpu, step_by, need_of, need_of_access, after_decode, after_fetch, unless_interrupted}
 use Rattle.rv_cpu.specs.Plain.{is_plain, is_plain_decoded, is_plain_fetched, is_plain_instr, is_plain_outcome, is_device_access}
 
 both_second : (a b : Bool) → (a && b) ≡ true → b ≡ true

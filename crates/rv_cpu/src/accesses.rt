@@ -71,7 +71,8 @@ impl Engine {
     fn load_ram(&mut self, size: u32, op: LoadOp, rd: u32, address: u32) -> Done
         requires rd { IsRegister rd }
         requires held { InRam (length self.old.ram) address (load_width op) }
-        ensures { at size result self.new ≡ midway self.old (model.loading_ram self.old size op rd address) }
+        ensures { at size result self.new
+            ≡ midway self.old (model.loading_ram self.old size op rd address) }
     {
         let width = alu::load_width(op);
         let value = self.ram.load(address, width);
@@ -91,7 +92,8 @@ impl Engine {
     #[inline(always)]
     pub fn load_plainly(&mut self, size: u32, op: LoadOp, rd: u32, address: u32) -> Done
         requires { IsRegister rd }
-        ensures { at size result self.new ≡ plainly self.old (model.loading self.old None size op rd address) }
+        ensures { at size result self.new
+            ≡ plainly self.old (model.loading self.old None size op rd address) }
     {
         if self.has_aligned(address, alu::load_width(op)) {
             self.load_ram(size, op, rd, address)
@@ -110,7 +112,8 @@ impl Engine {
         address: u32,
     ) -> Done
         requires { IsRegister rd }
-        ensures { at size result self.new ≡ midway self.old (model.loading_device self.old supplied size op rd address) }
+        ensures { at size result self.new
+            ≡ midway self.old (model.loading_device self.old supplied size op rd address) }
     {
         if !is_device(address) {
             return Done::Raised {
@@ -141,7 +144,8 @@ impl Engine {
         address: u32,
     ) -> Done
         requires { IsRegister rd }
-        ensures { at size result self.new ≡ midway self.old (model.loading self.old supplied size op rd address) }
+        ensures { at size result self.new
+            ≡ midway self.old (model.loading self.old supplied size op rd address) }
     {
         let width = alu::load_width(op);
         if !is_aligned(address, width) {
@@ -160,7 +164,8 @@ impl Engine {
     #[inline(always)]
     fn store_ram(&mut self, size: u32, op: StoreOp, value: u32, address: u32) -> Done
         requires { InRam (length self.old.ram) address (store_width op) }
-        ensures { at size result self.new ≡ midway self.old (model.storing_at self.old size op value address false) }
+        ensures { at size result self.new
+            ≡ midway self.old (model.storing_at self.old size op value address false) }
     {
         let width = alu::store_width(op);
         let low = low_bytes(width, value);
@@ -179,7 +184,8 @@ impl Engine {
     /// Stores to RAM; where the address is misaligned or elsewhere, nothing.
     #[inline(always)]
     pub fn store_plainly(&mut self, size: u32, op: StoreOp, value: u32, address: u32) -> Done
-        ensures { at size result self.new ≡ plainly self.old (model.storing self.old size op value address) }
+        ensures { at size result self.new
+            ≡ plainly self.old (model.storing self.old size op value address) }
     {
         if self.has_aligned(address, alu::store_width(op)) {
             self.store_ram(size, op, value, address)
@@ -190,7 +196,11 @@ impl Engine {
 
     // Stores to a device register; where there is none, it is exception 7.
     fn store_device(&mut self, size: u32, op: StoreOp, value: u32, address: u32) -> Done
-        ensures { at size result self.new ≡ midway self.old (if is_device address then model.storing_at self.old size op value address true else Raises 7 address) }
+        ensures { at size result self.new
+            ≡ midway self.old
+            (if is_device address
+            then model.storing_at self.old size op value address true
+            else Raises 7 address) }
     {
         if !is_device(address) {
             return Done::Raised {
@@ -212,7 +222,8 @@ impl Engine {
 
     /// Stores to RAM or to a device register. A misaligned address is exception 6, another one exception 7.
     pub fn store(&mut self, size: u32, op: StoreOp, value: u32, address: u32) -> Done
-        ensures { at size result self.new ≡ midway self.old (model.storing self.old size op value address) }
+        ensures { at size result self.new
+            ≡ midway self.old (model.storing self.old size op value address) }
     {
         let width = alu::store_width(op);
         if !is_aligned(address, width) {

@@ -27,7 +27,8 @@ impl Engine {
     // LR: loads a word and reserves it. (8.2)
     fn reserve(&mut self, size: u32, rd: u32, address: u32) -> Done
         requires { IsRegister rd }
-        ensures { at size result self.new ≡ midway self.old (model.reserving self.old size rd address) }
+        ensures { at size result self.new
+            ≡ midway self.old (model.reserving self.old size rd address) }
     {
         if !is_aligned(address, 4) {
             return Done::Raised {
@@ -59,7 +60,8 @@ impl Engine {
     fn store_reserved(&mut self, size: u32, rd: u32, value: u32, address: u32) -> Done
         requires rd { IsRegister rd }
         requires held { InRam (length self.old.ram) address 4 }
-        ensures { at size result self.new ≡ midway self.old (Does (model.storing_reserved self.old size rd value address)) }
+        ensures { at size result self.new
+            ≡ midway self.old (Does (model.storing_reserved self.old size rd value address)) }
     {
         let succeeds = is_reserved(self.reserved, address);
         self.reserved = None;
@@ -81,7 +83,8 @@ impl Engine {
     // SC.
     fn store_conditionally(&mut self, size: u32, rd: u32, value: u32, address: u32) -> Done
         requires { IsRegister rd }
-        ensures { at size result self.new ≡ midway self.old (model.conditional self.old size rd value address) }
+        ensures { at size result self.new
+            ≡ midway self.old (model.conditional self.old size rd value address) }
     {
         if !is_aligned(address, 4) {
             Done::Raised {
@@ -101,7 +104,8 @@ impl Engine {
     // An operation on a word, whose old value goes to rd. (8.4)
     fn swap(&mut self, size: u32, op: AtomicOp, rd: u32, value: u32, address: u32) -> Done
         requires { IsRegister rd }
-        ensures { at size result self.new ≡ midway self.old (model.swapping self.old size op rd value address) }
+        ensures { at size result self.new
+            ≡ midway self.old (model.swapping self.old size op rd value address) }
     {
         if !is_aligned(address, 4) {
             return Done::Raised {
@@ -128,7 +132,8 @@ impl Engine {
     /// LR and 6 of the others, an address outside RAM exception 5 of LR and 7 of the others.
     pub fn do_atomic(&mut self, size: u32, op: AtomicOp, rd: u32, value: u32, address: u32) -> Done
         requires { IsRegister rd }
-        ensures { at size result self.new ≡ midway self.old (model.atomic self.old size op rd value address) }
+        ensures { at size result self.new
+            ≡ midway self.old (model.atomic self.old size op rd value address) }
     {
         match op {
             AtomicOp::Lr => self.reserve(size, rd, address),

@@ -72,7 +72,8 @@ impl Cpu {
         ensures step { IsTrue result → cpu self.old lines None ≡ (event.new, self.new) }
         ensures same { result ≡ false → self.new ≡ self.old }
         ensures size { length self.new.ram ≡ length self.old.ram }
-        ensures fits { (ram_kib : ℕ) → IsTrue result → length self.old.ram ≡ 1024 * ram_kib → Fits ram_kib event.new }
+        ensures fits { (ram_kib : ℕ) → IsTrue result → length self.old.ram
+            ≡ 1024 * ram_kib → Fits ram_kib event.new }
     {
         self.engine.try_step(lines, event)
     }
@@ -88,7 +89,8 @@ impl Cpu {
     /// It answers what that shows.
     pub fn dma(&mut self, address: u32, word: u32, mark: u8) -> Event
         requires { IsTrue (holds_word self.old address) }
-        ensures touch { touch self.old (record { address = address; word = word; mark = mark }) ≡ (result, self.new) }
+        ensures touch { touch self.old (record { address = address; word = word; mark = mark })
+            ≡ (result, self.new) }
         ensures size { length self.new.ram ≡ length self.old.ram }
         ensures fits { (ram_kib : ℕ) → length self.old.ram ≡ 1024 * ram_kib → Fits ram_kib result }
     {

@@ -23,7 +23,14 @@ impl Model for Engine {
 
     ghost Value = { State };
 
-    ghost view = { λ e. record { registers = e.registers; pc = e.pc; csrs = e.csrs; ram = e.ram; reservation = e.reserved; step = e.steps } };
+    ghost view = { λ e. record {
+      registers = e.registers;
+      pc = e.pc;
+      csrs = e.csrs;
+      ram = e.ram;
+      reservation = e.reserved;
+      step = e.steps;
+    } };
 }
 
 impl Engine {
@@ -58,7 +65,8 @@ impl Engine {
     pub fn put(&mut self, rd: u32, value: u32) -> u32
         requires { IsRegister rd }
         ensures taken { result ≡ taken rd value }
-        ensures state { self.new ≡ record self.old { registers = with_register self.old.registers rd value } }
+        ensures state { self.new
+            ≡ record self.old { registers = with_register self.old.registers rd value } }
     {
         let kept = if rd == 0 { 0 } else { value };
         self.registers[rd as usize] = kept;

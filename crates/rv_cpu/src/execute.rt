@@ -23,7 +23,8 @@ impl Engine {
         instr: Instr,
     ) -> Done
         requires { IsValid instr }
-        ensures { at size result self.new ≡ midway self.old (outcome self.old lines supplied word size instr) }
+        ensures { at size result self.new
+            ≡ midway self.old (outcome self.old lines supplied word size instr) }
     {
         match instr {
             Instr::Lui { rd, imm } => self.write(size, rd, imm.cast_unsigned()),

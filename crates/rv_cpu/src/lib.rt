@@ -14,5 +14,7 @@ mod need;
 mod plain;
 mod step;
 mod system;
+#[cfg(test)]
+mod tests;
 
 pub use cpu::Cpu;

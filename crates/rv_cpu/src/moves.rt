@@ -23,7 +23,8 @@ impl Engine {
     #[inline(always)]
     pub fn write(&mut self, size: u32, rd: u32, value: u32) -> Done
         requires { IsRegister rd }
-        ensures { at size result self.new ≡ midway self.old (Does (model.writing self.old size rd value)) }
+        ensures { at size result self.new
+            ≡ midway self.old (Does (model.writing self.old size rd value)) }
     {
         Done::Quiet {
             result: self.put(rd, value),
@@ -35,7 +36,10 @@ impl Engine {
     #[inline(always)]
     fn link(&mut self, size: u32, rd: u32, target: u32) -> Done
         requires { IsRegister rd }
-        ensures { at size result self.new ≡ midway self.old (Does (record (model.writing self.old size rd (sum self.old.pc size)) { next = target })) }
+        ensures { at size result self.new
+            ≡ midway self.old
+            (Does (record (model.writing self.old size rd (sum self.old.pc size))
+            { next = target })) }
     {
         let link = self.next(size);
         Done::Quiet {
@@ -49,7 +53,8 @@ impl Engine {
     #[inline(always)]
     pub fn jump(&mut self, size: u32, rd: u32, target: u32) -> Done
         requires { IsRegister rd }
-        ensures { at size result self.new ≡ midway self.old (model.jumping self.old size rd target) }
+        ensures { at size result self.new
+            ≡ midway self.old (model.jumping self.old size rd target) }
     {
         if target % GRAIN == 0 {
             self.link(size, rd, target)
@@ -65,7 +70,8 @@ impl Engine {
     #[inline(always)]
     pub fn jump_plainly(&mut self, size: u32, rd: u32, target: u32) -> Done
         requires { IsRegister rd }
-        ensures { at size result self.new ≡ plainly self.old (model.jumping self.old size rd target) }
+        ensures { at size result self.new
+            ≡ plainly self.old (model.jumping self.old size rd target) }
     {
         if target % GRAIN == 0 {
             self.link(size, rd, target)
@@ -77,7 +83,11 @@ impl Engine {
     /// Branches to a target where the test on two registers holds; else goes on.
     #[inline(always)]
     pub fn branch_plainly(&mut self, size: u32, taken: bool, target: u32) -> Done
-        ensures { at size result self.new ≡ plainly self.old (if taken then model.jumping self.old size 0 target else Does (model.going_on self.old size)) }
+        ensures { at size result self.new
+            ≡ plainly self.old
+            (if taken
+            then model.jumping self.old size 0 target
+            else Does (model.going_on self.old size)) }
     {
         if taken {
             self.jump_plainly(size, 0, target)
@@ -88,7 +98,11 @@ impl Engine {
 
     /// The same as the whole instruction: a branch that is taken to where no instruction can begin is exception 0.
     pub fn branch(&mut self, size: u32, taken: bool, target: u32) -> Done
-        ensures { at size result self.new ≡ midway self.old (if taken then model.jumping self.old size 0 target else Does (model.going_on self.old size)) }
+        ensures { at size result self.new
+            ≡ midway self.old
+            (if taken
+            then model.jumping self.old size 0 target
+            else Does (model.going_on self.old size)) }
     {
         if taken {
             self.jump(size, 0, target)

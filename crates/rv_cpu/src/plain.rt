@@ -16,7 +16,8 @@ impl Engine {
     #[inline(always)]
     pub fn execute_plainly(&mut self, lines: u8, word: u32, size: u32, instr: Instr) -> Done
         requires { IsValid instr }
-        ensures { at size result self.new ≡ executed_plainly self.old instr (outcome self.old lines None word size instr) }
+        ensures { at size result self.new
+            ≡ executed_plainly self.old instr (outcome self.old lines None word size instr) }
     {
         match instr {
             Instr::Lui { rd, imm } => self.write(size, rd, imm.cast_unsigned()),

@@ -50,7 +50,9 @@ impl Engine {
         requires valid { IsValid instr }
         requires room { self.old.step < 1000000000 }
         ensures plain { result ≡ is_plain_decoded self.old lines word size (Some instr) }
-        ensures step { IsTrue result → step_by self.old word (outcome self.old lines None word size instr) ≡ (event.new, self.new) }
+        ensures step { IsTrue result →
+            step_by self.old word (outcome self.old lines None word size instr)
+            ≡ (event.new, self.new) }
         ensures same { result ≡ false → self.new ≡ self.old }
     {
         let told = self.told();
@@ -136,7 +138,8 @@ impl Engine {
     ) -> Event
         requires valid { IsValid instr }
         requires room { self.old.step < 1000000000 }
-        ensures { step_by self.old word (outcome self.old lines supplied word size instr) ≡ (result, self.new) }
+        ensures { step_by self.old word (outcome self.old lines supplied word size instr)
+            ≡ (result, self.new) }
     {
         let told = self.told();
         match self.execute(lines, supplied, word, size, instr) {
@@ -172,7 +175,8 @@ impl Engine {
     /// The disk writes a word into RAM before the next step, and ends a reservation of it.
     pub fn dma(&mut self, address: u32, word: u32, mark: u8) -> Event
         requires { IsTrue (holds_word self.old address) }
-        ensures { touch self.old (record { address = address; word = word; mark = mark }) ≡ (result, self.new) }
+        ensures { touch self.old (record { address = address; word = word; mark = mark })
+            ≡ (result, self.new) }
     {
         self.ram.store(address, 4, word);
         if is_reserved(self.reserved, address) {

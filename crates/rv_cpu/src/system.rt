@@ -41,7 +41,9 @@ impl Engine {
     // Writes a CSR and, with what it held, rd; a CSR that may not be written is exception 2.
     fn write_csr(&mut self, size: u32, word: u32, rd: u32, old: u32, csr: u32, value: u32) -> Done
         requires { IsRegister rd }
-        ensures { at size result self.new ≡ midway self.old (model.csr_kept self.old size word rd old (written self.old.csrs csr value)) }
+        ensures { at size result self.new
+            ≡ midway self.old
+            (model.csr_kept self.old size word rd old (written self.old.csrs csr value)) }
     {
         match self.csrs.write(csr, value) {
             Some(()) => self.write(size, rd, old),
@@ -65,7 +67,8 @@ impl Engine {
     ) -> Done
         requires rd { IsRegister rd }
         requires source { IsRegister source }
-        ensures { at size result self.new ≡ midway self.old (model.csr_write self.old size op word rd source csr (Some old)) }
+        ensures { at size result self.new
+            ≡ midway self.old (model.csr_write self.old size op word rd source csr (Some old)) }
     {
         if alu::writes_csr(op, source) {
             let operand = self.csr_operand(op, source);
@@ -89,7 +92,8 @@ impl Engine {
     ) -> Done
         requires rd { IsRegister rd }
         requires source { IsRegister source }
-        ensures { at size result self.new ≡ midway self.old (model.csr_of self.old lines size op word rd source csr) }
+        ensures { at size result self.new
+            ≡ midway self.old (model.csr_of self.old lines size op word rd source csr) }
     {
         match self.read_csr(lines, op, rd, csr) {
             Some(old) => self.change_csr(size, op, word, rd, source, csr, old),
@@ -102,7 +106,10 @@ impl Engine {
 
     /// MRET: leaves a trap.
     pub fn return_from_trap(&mut self, size: u32) -> Done
-        ensures { at size result self.new ≡ midway self.old (Does (record (model.going_on self.old size) { next = self.old.csrs.mepc; csrs = left self.old.csrs })) }
+        ensures { at size result self.new
+            ≡ midway self.old
+            (Does (record (model.going_on self.old size)
+            { next = self.old.csrs.mepc; csrs = left self.old.csrs })) }
     {
         let next = self.csrs.leave();
         Done::Quiet {

@@ -1,5 +1,4 @@
 -- The laws of a step, of the engine inside.
-use Rattle.std.proofs.Common.{◌≡◌, ℕ}
 use Rattle.rv_cpu.proofs.CpuLaws.{step_aligned, step_sized, step_fits}
 use Rattle.rv_cpu.proofs.cpu.Cpu.step.Goals as goal
 

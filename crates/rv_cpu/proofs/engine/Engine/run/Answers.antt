@@ -1,5 +1,5 @@
 -- What `end` and `trap` give is the step of what was executed.
-use Rattle.std.proofs.Common.{◌≡◌, ℕ, Some, ap}
+use Rattle.std.proofs.Common.{Some, ap}
 use Rattle.rv_cpu.proofs.MidwayLaws.{whole_end}
 use Rattle.rv_cpu.proofs.engine.Engine.run.Goals as goal
 

@@ -1,5 +1,4 @@
 -- What `end` gives is the step of what was executed.
-use Rattle.std.proofs.Common.{◌≡◌, ℕ, Some}
 use Rattle.rv_cpu.proofs.MidwayLaws.{plain_end}
 use Rattle.rv_cpu.proofs.engine.Engine.run_plainly.Goals as goal
 

@@ -1,5 +1,5 @@
 -- A plain step needs nothing.
-use Rattle.std.proofs.Common.{◌≡◌, sym, ◌∙◌}
+use Rattle.std.proofs.Common.{sym, ◌∙◌}
 use Rattle.rv_cpu.proofs.PlainLaws.{plain_needs}
 use Rattle.rv_cpu.proofs.hart.CpuHart.try_step.Goals as goal
 
