@@ -2,6 +2,7 @@ pub mod Determinism
 pub mod ItemLaws
 pub mod NumberLaws
 mod BoardExamples
+mod DiskExample
 mod GuestExamples
 mod ReplayExamples
 pub mod RunLaws
