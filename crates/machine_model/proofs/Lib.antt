@@ -4,6 +4,7 @@ pub mod NumberLaws
 mod BoardExamples
 mod DiskExample
 mod GuestExamples
+pub mod BoardLaws
 mod ReplayExamples
 pub mod RunLaws
 pub mod ShownLaws

@@ -1,12 +1,13 @@
 -- The board: serial line, timer, disk and power register. Each question is asked of the whole script.
 use Rattle.std.proofs.Common.{zero, suc}
-use Rattle.std.specs.Prelude.{ℕ, ◌≤◌, ◌+◌, ◌-◌, ◌*◌, ◌/◌, ◌%◌, ◌^◌, Bool, true, false, ◌&&◌, ◌||◌, ◌==◌, nat_lt, nat_le, List, [], ◌∷◌, ◌++◌, length, map, take, drop, replicate, sum_by, slice_get, Option, None, Some, is_some, if◌then◌else◌}
+use Rattle.std.specs.Prelude.{◌≡◌, ℕ, ◌≤◌, ◌+◌, ◌-◌, ◌*◌, ◌/◌, ◌%◌, ◌^◌, Bool, true, false, ◌&&◌, ◌||◌, ◌==◌, nat_lt, nat_le, List, [], ◌∷◌, ◌++◌, length, map, take, drop, replicate, sum_by, slice_get, Option, None, Some, is_some, if◌then◌else◌}
 use Rattle.std.specs.Option.{option_and_then, option_map_or}
-use Rattle.std.specs.List.{filter_map, flat_map, list_any}
+use Rattle.std.specs.List.{AllByRecursion, filter_map, flat_map, list_any}
 use Rattle.std.specs.Int.{w32, from_le_bytes}
 use Rattle.memory_map.specs.declared.TheConstants.{RAM_START, MTIMECMP_LOW, MTIMECMP_HIGH, MTIME_LOW, MTIME_HIGH, SERIAL_DATA, SERIAL_STATUS, SERIAL_CTRL, DISK_SECTOR, DISK_ADDR, DISK_CMD, DISK_STATUS, DISK_CTRL, DISK_COUNT, POWER}
-use Rattle.memory_map.specs.Ram.{in_ram}
+use Rattle.memory_map.specs.Ram.{InRam, in_ram}
 use Rattle.rv_memory.specs.Ram.{placed}
+use Rattle.run_events.specs.Record.{IsMark}
 use Rattle.run_events.specs.declared.supply.Supplied.{Supplied}
 use Rattle.run_events.specs.declared.supply.DmaWord.{DmaWord}
 use Rattle.machine_model.specs.Script.{Script, Span, Entry, What, Serial, Tick, Latency}
@@ -340,3 +341,28 @@ RisesFrom step (entry ∷ entries) = (step ≤ entry.at) × RisesFrom entry.at e
 pub record IsPlayable (script : Script) : Type 0 where
   pub clock : 1 ≤ script.clock
   pub rises : RisesFrom 0 script.entries
+
+-- the marks of a script's serial bytes are in range
+abbrev pub IsMarkedBy : What → Type 0
+IsMarkedBy (Serial bytes mark) = IsMark mark
+IsMarkedBy (Tick count) = Unit {0}
+IsMarkedBy (Latency steps) = Unit {0}
+
+abbrev pub AreMarked : List Entry → Type 0
+AreMarked [] = Unit {0}
+AreMarked (entry ∷ entries) = IsMarkedBy entry.what × AreMarked entries
+
+-- WHAT A BOARD GIVES A MACHINE
+
+-- a word that the disk may write to a RAM of this many bytes
+pub record IsDiskWord (size : ℕ) (word : DmaWord) : Type 0 where
+  pub aligned : word.address % 4 ≡ 0
+  pub within : InRam size word.address 4
+  pub marked : IsMark word.mark
+
+-- the words of a command that is being done
+abbrev pub IsUnderWay : ℕ → Activity → Type 0
+IsUnderWay size Idle = Unit {0}
+IsUnderWay size (Busy command) = (length command.words ≤ 128) × AllByRecursion (IsDiskWord size) command.words
+IsUnderWay size Done = Unit {0}
+IsUnderWay size Refused = Unit {0}

@@ -1,3 +1,4 @@
+pub mod CounterLaws
 mod Examples
 pub mod TableLaws
 pub mod TrapLaws

@@ -4,6 +4,11 @@ ghost use Rattle.rv_csr.specs.Traps as model;
 
 use crate::csrs::Csrs;
 
+// The causes of the interrupts. (Privileged manual, 3.1.15.)
+const EXTERNAL_INTERRUPT: u32 = 0x8000_000b;
+
+const TIMER_INTERRUPT: u32 = 0x8000_0007;
+
 impl Csrs {
     /// Enters a trap with this cause and value at this pc, and answers the pc of its handler: mtvec's base, or in vectored
     /// mode and for an interrupt the word of its number from there on, modulo 2^32. (Privileged manual, 3.1.6 and 3.1.7.)
@@ -44,9 +49,9 @@ impl Csrs {
         if !self.interrupts {
             None
         } else if self.external_enabled && lines / 2 % 2 == 1 {
-            Some(0x8000_000b)
+            Some(EXTERNAL_INTERRUPT)
         } else if self.timer_enabled && lines % 2 == 1 {
-            Some(0x8000_0007)
+            Some(TIMER_INTERRUPT)
         } else {
             None
         }

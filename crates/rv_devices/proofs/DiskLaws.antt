@@ -1,5 +1,5 @@
 -- A command of the disk that is begun.
-use Rattle.std.proofs.Common.{◌≡◌, ◌≢◌, ℕ, ◌+◌, ◌-◌, ◌*◌, ◌/◌, ◌^◌, ◌≤◌, Bool, true, false, List, [], length, take, drop, refl, sym, ◌∙◌, ap, arith}
+use Rattle.std.proofs.Common.{◌≡◌, ◌≢◌, ℕ, ◌+◌, ◌-◌, ◌*◌, ◌/◌, ◌^◌, ◌<◌, ◌≤◌, Bool, true, false, List, [], length, take, drop, refl, sym, ◌∙◌, ap, arith}
 use Rattle.std.specs.Prelude.{◌==◌, if◌then◌else◌}
 use Rattle.memory_map.specs.declared.TheConstants.{RAM_START}
 use Rattle.machine_model.specs.Script.{Script}
@@ -25,3 +25,7 @@ chosen_write busy accepted reads same read write refused b a r = rw (b, a, r) re
 
 pub writing : (script : Script) (step : ℕ) (ram : List ℕ) (command : ℕ) (b : model.BoardState) → model.is_busy b.activity ≡ false → model.is_accepted (length ram) (model.sector_count b.bytes) command b.sector b.address ≡ true → (command == 1) ≡ false → model.commanded script step ram command b ≡ record b { activity = model.busy_until (step + model.latency script step) []; bytes = model.with_sector ram b }
 writing script step ram command b idle accepted writes = chosen_write (model.is_busy b.activity) _ (command == 1) b _ _ _ idle accepted writes
+
+-- it names a sector that is there
+pub accepted_sector : (size count command sector address : ℕ) → model.is_accepted size count command sector address ≡ true → sector < count
+accepted_sector size count command sector address is = grind (arith, is)

@@ -28,6 +28,12 @@ AreDue-suc begun (suc place) (first ∷ entries) entry due at below = (due.0, Ar
 pub AreDue-next : (begun place : ℕ) (entries : List Entry) (entry : Entry) → AreDue begun place entries → slice_get entries place ≡ Some entry → entry.at < begun → AreDue begun (place + 1) entries
 AreDue-next begun place entries entry due at below = subst (λ n. AreDue begun n entries) (sym (add-one place)) (AreDue-suc begun place entries entry due at below)
 
+-- before the first step none is due
+pub AreDue-none : (place : ℕ) (entries : List Entry) → AreDue 0 place entries → place ≡ 0
+AreDue-none zero entries due = refl
+AreDue-none (suc place) [] due = absurd due
+AreDue-none (suc place) (entry ∷ entries) due = absurd (omega (arith, due.0))
+
 -- the entries that are due are entries
 pub AreDue-length : (begun place : ℕ) (entries : List Entry) → AreDue begun place entries → place ≤ length entries
 AreDue-length begun zero entries due = omega arith

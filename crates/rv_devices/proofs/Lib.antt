@@ -1,4 +1,6 @@
 pub mod DiskLaws
+pub mod DueLaws
 pub mod EntryLaws
 pub mod FollowLaws
 pub mod SendLaws
+pub mod StandLaws

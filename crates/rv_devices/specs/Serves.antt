@@ -1,5 +1,5 @@
 -- What a disk stands for.
-use Rattle.std.specs.Prelude.{◌≡◌, ℕ, ◌+◌, ◌-◌, ◌^◌, ◌≤◌, List}
+use Rattle.std.specs.Prelude.{◌≡◌, ℕ, ◌+◌, ◌-◌, ◌^◌, ◌≤◌, ◌<◌, List, length}
 use Rattle.run_events.specs.declared.supply.DmaWord.{DmaWord}
 use Rattle.machine_model.specs.Script.{Script}
 use Rattle.machine_model.specs.Board as model
@@ -26,6 +26,7 @@ NotBefore step code.Refused = Unit {0}
 -- a disk of a board in this state, with these words still to be handed out
 pub record Serves (script : Script) (words : List DmaWord) (state : model.BoardState) (disk : Disk) : Type 0 where
   pub bytes_are : disk.bytes.items ≡ state.bytes
+  pub small : length state.bytes < 2 ^ 32
   pub sectors_are : disk.sectors.items ≡ script.sectors
   pub sector_is : disk.sector ≡ state.sector
   pub address_is : disk.address ≡ state.address

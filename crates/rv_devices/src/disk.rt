@@ -59,6 +59,7 @@ impl Disk {
 
     /// The disk of these bytes at reset.
     pub fn new(bytes: Vec<u8>, sectors: Vec<Span>) -> Disk
+        requires { length bytes.items < 2 ^ 32 }
         ensures { (script : Script) → sectors.items ≡ script.sectors → Serves script [] (model.reset_board bytes.items) result }
     {
         Disk {
@@ -73,11 +74,18 @@ impl Disk {
         }
     }
 
-    /// The number of sectors.
-    pub fn count(&self) -> usize
+    // The number of sectors.
+    fn count(&self) -> usize
         ensures { result ≡ model.sector_count self.now.bytes.items }
     {
         self.bytes.len() / SECTOR_BYTES
+    }
+
+    /// The number of sectors, as the register has it.
+    pub fn count_register(&self) -> u32
+        ensures { model.sector_count self.now.bytes.items < 2 ^ 32 → result ≡ model.sector_count self.now.bytes.items }
+    {
+        (self.count() % 0x1_0000_0000) as u32
     }
 
     /// The status, as the register has it.
@@ -126,7 +134,8 @@ impl Disk {
 
     /// A store to the status.
     pub fn acknowledge(&mut self)
-        ensures { (script : Script) (words : List DmaWord) (state : BoardState) → Serves script words state self.old → Serves script words (record state { activity = model.acknowledged state.activity }) self.new }
+        ensures quiet { (step : ℕ) → NotBefore step self.old.activity → NotBefore step self.new.activity }
+        ensures serves { (script : Script) (words : List DmaWord) (state : BoardState) → Serves script words state self.old → Serves script words (record state { activity = model.acknowledged state.activity }) self.new }
     {
         match self.activity {
             Activity::Busy { .. } => {}

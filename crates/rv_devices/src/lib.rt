@@ -1,6 +1,7 @@
 //! The board: serial line, timer, disk and power register, driven by a script that it goes through once.
 #![tactic(auto)]
 
+mod board;
 mod disk;
 mod effect;
 mod register;
@@ -8,4 +9,5 @@ mod schedule;
 mod timer;
 mod transfer;
 
+pub use board::Board;
 pub use effect::Effect;

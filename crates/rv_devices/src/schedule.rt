@@ -130,11 +130,10 @@ impl Schedule {
 
     // Goes on to the next entry that is due and has a byte left, if there is one.
     fn skip(&mut self)
-        requires { self.old.source ≤ self.old.place }
         ensures entries { self.new.entries.items ≡ self.old.entries.items }
         ensures place { self.new.place ≡ self.old.place }
         ensures latency { self.new.latency ≡ self.old.latency }
-        ensures within { self.new.source ≤ self.new.place }
+        ensures within { self.old.source ≤ self.old.place → self.new.source ≤ self.new.place }
         ensures left { self.old.taken ≤ length (arrivals_at self.old.source self.old.entries.items) → left_of self.new ≡ left_of self.old }
         ensures clear { self.new.source < self.new.place → self.new.taken < length (arrivals_at self.new.source self.new.entries.items) }
         ensures fresh { (self.old.place ≤ self.old.source → self.old.taken ≡ 0) → self.new.place ≤ self.new.source → self.new.taken ≡ 0 }
@@ -147,10 +146,9 @@ impl Schedule {
 
     /// Goes on to this step, and answers the ticks of the entries that fell due, modulo 2 ^ 64.
     pub fn advance(&mut self, step: u32) -> u64
-        requires { self.old.source ≤ self.old.place }
         ensures follows { (entries : List Arrives) (taken : ℕ) → RisesFrom 0 entries → Follows entries step taken self.old → Follows entries (step + 1) taken self.new }
         ensures ticks { (result + ticks_before self.old.place self.old.entries.items) % 2 ^ 64 ≡ ticks_before self.new.place self.old.entries.items % 2 ^ 64 }
-        ensures within { self.new.source ≤ self.new.place }
+        ensures entries { self.new.entries.items ≡ self.old.entries.items }
     {
         let passed = self.pass_due(step);
         self.skip();
@@ -166,6 +164,13 @@ impl Schedule {
         } else {
             u64::MAX
         }
+    }
+
+    /// The latency in force.
+    pub fn latency(&self) -> u32
+        ensures { result ≡ self.now.latency }
+    {
+        self.latency
     }
 
     /// Whether a serial byte waits.
@@ -191,11 +196,10 @@ impl Schedule {
 
     /// Takes the serial byte that waits, if one does.
     pub fn take(&mut self) -> Supplied
-        requires { self.old.source ≤ self.old.place }
         ensures byte { result ≡ byte_given (next_byte self.old) }
         ensures follows { (entries : List Arrives) (begun taken : ℕ) → Follows entries begun taken self.old → Follows entries begun (if nat_lt self.old.source self.old.place then taken + 1 else taken) self.new }
         ensures place { self.new.place ≡ self.old.place }
-        ensures within { self.new.source ≤ self.new.place }
+        ensures entries { self.new.entries.items ≡ self.old.entries.items }
     {
         let Some(byte) = self.next_byte() else {
             return Supplied { value: 0, mark: 0 };

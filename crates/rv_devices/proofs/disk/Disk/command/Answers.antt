@@ -1,11 +1,12 @@
-use Rattle.std.proofs.Common.{◌≡◌, ◌+◌, ◌≤◌, true, false, List, [], ℕ, length, arith, rules, ◌∙◌, ap, sym, refl}
+use Rattle.std.proofs.Common.{◌≡◌, ◌+◌, ◌-◌, ◌*◌, ◌<◌, ◌≤◌, take, drop, length-take, true, false, List, [], ℕ, length, arith, rules, ◌∙◌, ap, sym, refl}
 use Rattle.std.specs.Prelude.{◌==◌}
 use Rattle.machine_model.specs.Board as model
 use Rattle.memory_map.specs.declared.TheConstants.{RAM_START}
+use Rattle.rv_memory.proofs.RamLaws.{length-placed}
 use Rattle.rv_devices.specs.Sends.{words_left}
 use Rattle.rv_devices.specs.Serves.{Serves, activity_of}
 use Rattle.rv_devices.proofs.SendLaws.{no_words}
-use Rattle.rv_devices.proofs.DiskLaws.{not_busy, accepted_below, writing}
+use Rattle.rv_devices.proofs.DiskLaws.{not_busy, accepted_below, accepted_sector, writing}
 use Rattle.rv_devices.proofs.disk.Disk.command.Goals as goal
 
 pub returns : goal.returns
@@ -20,9 +21,11 @@ returns c = λ script step words state at serves.
     let accepted : model.is_accepted (length ram) (model.sector_count state.bytes) c.args.command state.sector state.address ≡ true = rw (← serves.bytes_are, ← serves.sector_is, ← serves.address_is) own in
     let other : (c.args.command == 1) ≡ false = search rules in
     let below : old.address + 512 ≤ RAM_START + length ram = accepted_below (length ram) (model.sector_count old.bytes.items) c.args.command old.sector old.address own in
+    let kept : length (model.with_sector ram state) ≡ length state.bytes = length-placed state.bytes (512 * state.sector) (take 512 (drop (state.address - RAM_START) ram)) (omega (arith, length-take 512 (drop (state.address - RAM_START) ram), accepted_sector (length ram) (model.sector_count state.bytes) c.args.command state.sector state.address accepted)) in
     rw (writing script step ram c.args.command state idle accepted other)
         (record {
           bytes_are = cc (w.bytes, serves.bytes_are, serves.sector_is, serves.address_is);
+          small = omega (arith, serves.small, kept);
           sectors_are = w.sectors ∙ serves.sectors_are;
           sector_is = w.sector ∙ serves.sector_is;
           address_is = w.address ∙ serves.address_is;

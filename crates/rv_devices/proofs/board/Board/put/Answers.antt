@@ -1,0 +1,41 @@
+use Rattle.std.proofs.Common.{◌≡◌, ◌+◌, ◌<◌, ◌^◌, ◌∙◌, ap, sym, subst, arith}
+use Rattle.machine_model.specs.Board as model
+use Rattle.rv_devices.specs.Stands.{Stands}
+use Rattle.rv_devices.proofs.StandLaws.{mtime_is, time_set}
+use Rattle.rv_devices.proofs.board.Board.put.Goals as goal
+
+pub returns-in-TimeLow : goal.returns-in-TimeLow
+returns-in-TimeLow c = λ script step words state s.
+    let board = c.args.self.now in
+    let value = c.with_low-self-in-TimeLow.result in
+    let is : value ≡ model.with_low (model.mtime script step state) c.args.value = c.with_low-self-in-TimeLow.ensures ∙ ap (λ n. model.with_low n c.args.value) (sym (mtime_is script step words state board s)) in
+    rw c.in-TimeLow.is (subst (λ n. Stands script (step + 1) words (record state { offset = model.offset_for script step n }) (record board { timer = record board.timer { count = value } })) is (time_set script step words state board value s (omega arith)))
+
+pub returns-in-TimeHigh : goal.returns-in-TimeHigh
+returns-in-TimeHigh c = λ script step words state s.
+    let board = c.args.self.now in
+    let value = c.with_high-self-in-TimeHigh.result in
+    let is : value ≡ model.with_high (model.mtime script step state) c.args.value = c.with_high-self-in-TimeHigh.ensures ∙ ap (λ n. model.with_high n c.args.value) (sym (mtime_is script step words state board s)) in
+    rw c.in-TimeHigh.is (subst (λ n. Stands script (step + 1) words (record state { offset = model.offset_for script step n }) (record board { timer = record board.timer { count = value } })) is (time_set script step words state board value s (omega arith)))
+
+pub returns-in-DiskCommand : goal.returns-in-DiskCommand
+returns-in-DiskCommand c = λ script step words state s. rw c.in-DiskCommand.is (c.command.ensures script step words state s)
+
+pub returns-in-DiskStatus : goal.returns-in-DiskStatus
+returns-in-DiskStatus c = λ script step words state s.
+    rw c.in-DiskStatus.is
+        (record {
+          playable = s.playable;
+          begun_is = s.begun_is;
+          numbered = s.numbered;
+          follows = s.follows;
+          times = s.times;
+          compare_is = s.compare_is;
+          serial_is = s.serial_is;
+          serves = c.acknowledge.ensures.serves script words state s.serves;
+          is_quiet = record {
+            timer = s.is_quiet.timer;
+            entries_later = s.is_quiet.entries_later;
+            disk = c.acknowledge.ensures.quiet c.args.self.now.quiet s.is_quiet.disk;
+          };
+        })

@@ -1,0 +1,36 @@
+-- What a board stands for.
+use Rattle.std.specs.Prelude.{◌≡◌, ℕ, ◌^◌, ◌≤◌, List, drop}
+use Rattle.run_events.specs.declared.supply.DmaWord.{DmaWord}
+use Rattle.machine_model.specs.Script.{Script, Entry}
+use Rattle.machine_model.specs.Board.{BoardState, IsPlayable}
+use Rattle.rv_devices.specs.declared.board.Board.{Board}
+use Rattle.rv_devices.specs.Entries.{AreLater, ticks_before}
+use Rattle.rv_devices.specs.Follows.{Follows}
+use Rattle.rv_devices.specs.Sends.{unsent}
+use Rattle.rv_devices.specs.Serves.{Serves, NotBefore}
+use Rattle.rv_devices.specs.Times.{Times}
+
+-- how many steps have begun, and how many words `due` has still to hand out
+abbrev pub steps_begun : Board → ℕ
+steps_begun board = board.begun
+
+abbrev pub words_due : Board → ℕ
+words_due board = unsent board.disk.sending
+
+-- nothing falls due by itself before the step that it keeps
+pub record IsQuiet (entries : List Entry) (board : Board) : Type 0 where
+  pub timer : board.quiet ≤ board.timer.rise
+  pub entries_later : AreLater board.quiet (drop board.schedule.place entries)
+  pub disk : NotBefore board.quiet board.disk.activity
+
+-- A board of this script in this state, where so many steps have begun, with these words still to be handed out.
+pub record Stands (script : Script) (begun : ℕ) (words : List DmaWord) (state : BoardState) (board : Board) : Type 0 where
+  pub playable : IsPlayable script
+  pub begun_is : board.begun ≡ begun
+  pub numbered : begun ≤ 2 ^ 32
+  pub follows : Follows script.entries begun state.taken board.schedule
+  pub times : Times script.clock begun (ticks_before board.schedule.place script.entries) state.offset board.timer
+  pub compare_is : board.timer.compare ≡ state.compare
+  pub serial_is : board.serial_control ≡ state.serial_control
+  pub serves : Serves script words state board.disk
+  pub is_quiet : IsQuiet script.entries board
