@@ -1,2 +1,3 @@
 pub mod CpuLaws
 pub mod MidwayLaws
+pub mod PlainLaws

@@ -1,2 +1,3 @@
 pub mod Midway
 pub mod Plain
+pub mod Sized

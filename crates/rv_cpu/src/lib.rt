@@ -8,6 +8,7 @@ mod cpu;
 mod done;
 mod engine;
 mod execute;
+mod hart;
 mod moves;
 mod need;
 mod plain;
