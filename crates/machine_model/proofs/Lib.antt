@@ -2,8 +2,6 @@ pub mod Determinism
 pub mod ItemLaws
 pub mod NumberLaws
 mod BoardExamples
-mod DiskExample
-mod GuestExamples
 pub mod BoardLaws
 mod ReplayExamples
 pub mod RunLaws

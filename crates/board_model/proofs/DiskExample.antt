@@ -14,7 +14,8 @@ use Rattle.hart_model.specs.Step.{cpu, outcome, step_by}
 use Rattle.machine_model.specs.Script.{Script, Latency}
 use Rattle.machine_model.specs.Board.{words_of}
 use Rattle.machine_model.specs.Image.{flat_image, ram_at_start}
-use Rattle.machine_model.specs.Guest.{board, run}
+use Rattle.board_model.specs.Guest.{run}
+use Rattle.board_model.specs.TheBoard.{board}
 
 abbrev bytes : List ℕ → List ℕ
 bytes [] = []

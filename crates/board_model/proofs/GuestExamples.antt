@@ -16,7 +16,8 @@ use Rattle.hart_model.specs.Step.{cpu, outcome, step_by}
 use Rattle.machine_model.specs.Script.{Script, Entry, What, Serial, Tick, Latency, no_script}
 use Rattle.machine_model.specs.Board.{words_of}
 use Rattle.machine_model.specs.Image.{flat_image, ram_at_start}
-use Rattle.machine_model.specs.Guest.{board, run}
+use Rattle.board_model.specs.Guest.{run}
+use Rattle.board_model.specs.TheBoard.{board}
 
 -- the bytes of words
 abbrev bytes : List ℕ → List ℕ

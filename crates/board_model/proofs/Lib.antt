@@ -1,0 +1,2 @@
+mod DiskExample
+mod GuestExamples

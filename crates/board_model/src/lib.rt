@@ -1,0 +1,2 @@
+//! The board beside the hart, as runs see it.
+#![tactic(auto)]
