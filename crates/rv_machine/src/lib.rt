@@ -1,9 +1,9 @@
-//! The recorder: a guest's run, handed out record by record.
+//! The recorder: a guest beside its board, whose run is handed out record by record.
 #![tactic(auto)]
 
-mod board;
 mod machine;
 mod phase;
+mod told;
 #[cfg(test)]
 mod tests;
 
