@@ -1,2 +1,3 @@
 mod DiskExample
 mod GuestExamples
+pub mod SoundBoard

@@ -91,7 +91,7 @@ fn padded(mut disk: Vec<u8>) -> Result<Vec<u8>, NoMemory>
 }
 
 impl Board {
-    ghost use Rattle.std.specs.Prelude.{◌≡◌, ◌≢◌, ℕ, ◌+◌, ◌-◌, ◌^◌, ◌≤◌, ◌<◌, List, [], length, drop, slice_get, vec_len, IfOk, IsSome, is_some};
+    ghost use Rattle.std.specs.Prelude.{◌≡◌, ◌≢◌, ℕ, ◌+◌, ◌-◌, ◌^◌, ◌≤◌, ◌<◌, List, [], length, drop, slice_get, vec_len, IfOk, IsSome, ◌↔◌};
     ghost use Rattle.run_events.specs.declared.supply.DmaWord.{DmaWord};
     ghost use Rattle.machine_model.specs.Script.{Script as Outside};
     ghost use Rattle.machine_model.specs.Board as model;
@@ -105,7 +105,9 @@ impl Board {
     pub fn new(_alloc: Global, script: Script, disk: Vec<u8>) -> Result<Board, NoMemory>
         requires script { IsPlayable script }
         requires disk { vec_len disk ≤ 2 ^ 24 }
-        ensures { IfOk result (λ board. Stands script 0 [] (model.reset_board (model.padded disk.items)) board) }
+        ensures stands { IfOk result (λ board. Stands script 0 [] (model.reset_board (model.padded disk.items)) board) }
+        ensures begun { IfOk result (λ board. steps_begun board ≡ 0) }
+        ensures left { IfOk result (λ board. words_due board ≡ 0) }
     {
         let bytes = padded(disk)?;
         let Script {
@@ -125,7 +127,8 @@ impl Board {
 
     // Goes on to a step before which something falls due.
     fn advance(&mut self, step: u32)
-        ensures { (script : Outside) (state : BoardState) → Stands script step [] state self.old → Stands script (step + 1) (model.words_before step state) (model.at_step step state) self.new }
+        ensures begun { self.new.begun ≡ step + 1 }
+        ensures stands { (script : Outside) (state : BoardState) → Stands script step [] state self.old → Stands script (step + 1) (model.words_before step state) (model.at_step step state) self.new }
     {
         self.begun = u64::from(step) + 1;
         self.timer.advance(step);
@@ -144,7 +147,8 @@ impl Board {
     pub fn begin(&mut self, step: u32)
         requires order { step ≡ steps_begun self.old }
         requires drained { words_due self.old ≡ 0 }
-        ensures { (script : Outside) (state : BoardState) → Stands script step [] state self.old → Stands script (step + 1) (model.words_before step state) (model.at_step step state) self.new }
+        ensures begun { steps_begun self.new ≡ step + 1 }
+        ensures stands { (script : Outside) (state : BoardState) → Stands script step [] state self.old → Stands script (step + 1) (model.words_before step state) (model.at_step step state) self.new }
     {
         if u64::from(step) < self.quiet {
             self.begun = u64::from(step) + 1;
@@ -158,6 +162,7 @@ impl Board {
         ensures next { (script : Outside) (begun : ℕ) (words : List DmaWord) (state : BoardState) → Stands script begun words state self.old → result ≡ slice_get words 0 }
         ensures stands { (script : Outside) (begun : ℕ) (words : List DmaWord) (state : BoardState) → Stands script begun words state self.old → Stands script begun (drop 1 words) state self.new }
         ensures left { words_due self.new ≡ words_due self.old - 1 }
+        ensures some { IsSome result ↔ (1 ≤ words_due self.old) }
         ensures begun { steps_begun self.new ≡ steps_begun self.old }
     {
         self.disk.sending.next()
@@ -198,6 +203,8 @@ impl Board {
         requires register { IsSome (model.register_at address) }
         ensures value { (script : Outside) (step : ℕ) (words : List DmaWord) (state : BoardState) → Stands script (step + 1) words state self.old → result ≡ model.given_at script step state address }
         ensures stands { (script : Outside) (step : ℕ) (words : List DmaWord) (state : BoardState) → Stands script (step + 1) words state self.old → Stands script (step + 1) words (model.after_load script step state address) self.new }
+        ensures begun { steps_begun self.new ≡ steps_begun self.old }
+        ensures left { words_due self.new ≡ words_due self.old }
     {
         if address == SERIAL_DATA {
             return self.schedule.take();
@@ -212,7 +219,9 @@ impl Board {
     fn command(&mut self, command: u32, ram: &Ram)
         requires begun { 1 ≤ self.old.begun }
         requires ram { length ram.now ≤ 2 ^ 24 }
-        ensures { (script : Outside) (step : ℕ) (words : List DmaWord) (state : BoardState) → Stands script (step + 1) words state self.old → Stands script (step + 1) words (model.commanded script step ram.now command state) self.new }
+        ensures begun { self.new.begun ≡ self.old.begun }
+        ensures left { self.new.disk.sending ≡ self.old.disk.sending }
+        ensures stands { (script : Outside) (step : ℕ) (words : List DmaWord) (state : BoardState) → Stands script (step + 1) words state self.old → Stands script (step + 1) words (model.commanded script step ram.now command state) self.new }
     {
         let before = (self.begun - 1).wrapping_add(u64::from(self.schedule.latency()));
         self.disk.command(command, before, ram);
@@ -223,7 +232,9 @@ impl Board {
     fn put(&mut self, register: Register, value: u32, ram: &Ram)
         requires begun { 1 ≤ self.old.begun }
         requires ram { length ram.now ≤ 2 ^ 24 }
-        ensures { (script : Outside) (step : ℕ) (words : List DmaWord) (state : BoardState) → Stands script (step + 1) words state self.old → Stands script (step + 1) words (model.stored_by script step ram.now value state (named register)) self.new }
+        ensures begun { self.new.begun ≡ self.old.begun }
+        ensures left { self.new.disk.sending ≡ self.old.disk.sending }
+        ensures stands { (script : Outside) (step : ℕ) (words : List DmaWord) (state : BoardState) → Stands script (step + 1) words state self.old → Stands script (step + 1) words (model.stored_by script step ram.now value state (named register)) self.new }
     {
         match register {
             Register::CompareLow => self.timer.compare = with_low(self.timer.compare, value),
@@ -251,6 +262,8 @@ impl Board {
         requires ram { length ram.now ≤ 2 ^ 24 }
         ensures effect { result ≡ effect_of address value }
         ensures stands { (script : Outside) (step : ℕ) (words : List DmaWord) (state : BoardState) → Stands script (step + 1) words state self.old → Stands script (step + 1) words (model.after_store script step ram.now state address value) self.new }
+        ensures begun { steps_begun self.new ≡ steps_begun self.old }
+        ensures left { words_due self.new ≡ words_due self.old }
     {
         let Some(register) = find(address) else {
             unreachable!()

@@ -55,12 +55,14 @@ impl Disk {
     ghost use Rattle.machine_model.specs.Script.{Script};
     ghost use Rattle.machine_model.specs.Board as model;
     ghost use Rattle.machine_model.specs.Board.{BoardState};
+    ghost use Rattle.rv_devices.specs.Sends.{unsent};
     ghost use Rattle.rv_devices.specs.Serves.{Serves, NotBefore, activity_of};
 
     /// The disk of these bytes at reset.
     pub fn new(bytes: Vec<u8>, sectors: Vec<Span>) -> Disk
         requires { length bytes.items < 2 ^ 32 }
-        ensures { (script : Script) → sectors.items ≡ script.sectors → Serves script [] (model.reset_board bytes.items) result }
+        ensures serves { (script : Script) → sectors.items ≡ script.sectors → Serves script [] (model.reset_board bytes.items) result }
+        ensures left { unsent result.sending ≡ 0 }
     {
         Disk {
             bytes,
@@ -134,6 +136,7 @@ impl Disk {
 
     /// A store to the status.
     pub fn acknowledge(&mut self)
+        ensures sending { self.new.sending ≡ self.old.sending }
         ensures quiet { (step : ℕ) → NotBefore step self.old.activity → NotBefore step self.new.activity }
         ensures serves { (script : Script) (words : List DmaWord) (state : BoardState) → Serves script words state self.old → Serves script words (record state { activity = model.acknowledged state.activity }) self.new }
     {
@@ -200,7 +203,8 @@ impl Disk {
     /// A store to the command; one that is accepted completes before the step `before`.
     pub fn command(&mut self, command: u32, before: u64, ram: &Ram)
         requires { length ram.now ≤ 2 ^ 24 }
-        ensures { (script : Script) (step : ℕ) (words : List DmaWord) (state : BoardState) → before ≡ step + model.latency script step → Serves script words state self.old → Serves script words (model.commanded script step ram.now command state) self.new }
+        ensures sending { self.new.sending ≡ self.old.sending }
+        ensures serves { (script : Script) (step : ℕ) (words : List DmaWord) (state : BoardState) → before ≡ step + model.latency script step → Serves script words state self.old → Serves script words (model.commanded script step ram.now command state) self.new }
     {
         if self.status() == 1 {
             return;

@@ -1,5 +1,5 @@
 //! The words that a read command writes to RAM.
-ghost use Rattle.std.specs.Prelude.{◌≡◌, ◌+◌, ◌-◌, ◌≤◌, length, take, drop, slice_get, List, []};
+ghost use Rattle.std.specs.Prelude.{◌≡◌, ◌+◌, ◌-◌, ◌≤◌, length, take, drop, slice_get, List, [], IsSome, ◌↔◌};
 ghost use Rattle.std.specs.Int.{w32, from_le_bytes};
 ghost use Rattle.run_events.specs.declared.supply.DmaWord.{DmaWord};
 ghost use Rattle.rv_devices.specs.Sends.{Sends, unsent};
@@ -21,7 +21,8 @@ pub struct Transfer {
 impl Transfer {
     /// A transfer of no word.
     pub fn none() -> Transfer
-        ensures { Sends [] result }
+        ensures sends { Sends [] result }
+        ensures left { unsent result ≡ 0 }
     {
         Transfer {
             bytes: [0; 512],
@@ -36,6 +37,7 @@ impl Transfer {
         ensures next { (words : List DmaWord) → Sends words self.old → result ≡ slice_get words 0 }
         ensures sends { (words : List DmaWord) → Sends words self.old → Sends (drop 1 words) self.new }
         ensures left { unsent self.new ≡ unsent self.old - 1 }
+        ensures some { IsSome result ↔ (1 ≤ unsent self.old) }
     {
         let at = self.sent;
         if at > SECTOR_BYTES - 4 {

@@ -6,8 +6,8 @@ use Rattle.rv_devices.proofs.EntryLaws.{AreLater-less}
 use Rattle.rv_devices.proofs.StandLaws.{NotBefore-less}
 use Rattle.rv_devices.proofs.board.Board.advance.Goals as goal
 
-pub returns : goal.returns
-returns c = λ script state stands.
+pub returns-clause-stands : goal.returns-clause-stands
+returns-clause-stands c = λ script state stands.
     let old = c.args.self.now in
     let step = c.args.step in
     let schedule = c.advance-ticks.new.self in

@@ -2,8 +2,8 @@ use Rattle.std.proofs.Common.{[], ◌<◌, arith}
 use Rattle.rv_devices.proofs.StandLaws.{no_words_before, same_state, quiet_step}
 use Rattle.rv_devices.proofs.board.Board.begin.Goals as goal
 
-pub returns-then-from-self : goal.returns-then-from-self
-returns-then-from-self c = λ script state stands.
+pub returns-then-from-self-clause-stands : goal.returns-then-from-self-clause-stands
+returns-then-from-self-clause-stands c = λ script state stands.
     let board = c.args.self.now in
     let below : c.args.step < board.quiet = omega (arith, c.from.ensures) in
     rw (no_words_before script c.args.step c.args.step [] state board stands below, same_state script c.args.step c.args.step [] state board stands below, c.from-then-from-self.ensures)

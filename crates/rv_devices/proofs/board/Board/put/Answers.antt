@@ -4,25 +4,25 @@ use Rattle.rv_devices.specs.Stands.{Stands}
 use Rattle.rv_devices.proofs.StandLaws.{mtime_is, time_set}
 use Rattle.rv_devices.proofs.board.Board.put.Goals as goal
 
-pub returns-in-TimeLow : goal.returns-in-TimeLow
-returns-in-TimeLow c = λ script step words state s.
+pub returns-in-TimeLow-clause-stands : goal.returns-in-TimeLow-clause-stands
+returns-in-TimeLow-clause-stands c = λ script step words state s.
     let board = c.args.self.now in
     let value = c.with_low-self-in-TimeLow.result in
     let is : value ≡ model.with_low (model.mtime script step state) c.args.value = c.with_low-self-in-TimeLow.ensures ∙ ap (λ n. model.with_low n c.args.value) (sym (mtime_is script step words state board s)) in
     rw c.in-TimeLow.is (subst (λ n. Stands script (step + 1) words (record state { offset = model.offset_for script step n }) (record board { timer = record board.timer { count = value } })) is (time_set script step words state board value s (omega arith)))
 
-pub returns-in-TimeHigh : goal.returns-in-TimeHigh
-returns-in-TimeHigh c = λ script step words state s.
+pub returns-in-TimeHigh-clause-stands : goal.returns-in-TimeHigh-clause-stands
+returns-in-TimeHigh-clause-stands c = λ script step words state s.
     let board = c.args.self.now in
     let value = c.with_high-self-in-TimeHigh.result in
     let is : value ≡ model.with_high (model.mtime script step state) c.args.value = c.with_high-self-in-TimeHigh.ensures ∙ ap (λ n. model.with_high n c.args.value) (sym (mtime_is script step words state board s)) in
     rw c.in-TimeHigh.is (subst (λ n. Stands script (step + 1) words (record state { offset = model.offset_for script step n }) (record board { timer = record board.timer { count = value } })) is (time_set script step words state board value s (omega arith)))
 
-pub returns-in-DiskCommand : goal.returns-in-DiskCommand
-returns-in-DiskCommand c = λ script step words state s. rw c.in-DiskCommand.is (c.command.ensures script step words state s)
+pub returns-in-DiskCommand-clause-stands : goal.returns-in-DiskCommand-clause-stands
+returns-in-DiskCommand-clause-stands c = λ script step words state s. rw c.in-DiskCommand.is (c.command.ensures.stands script step words state s)
 
-pub returns-in-DiskStatus : goal.returns-in-DiskStatus
-returns-in-DiskStatus c = λ script step words state s.
+pub returns-in-DiskStatus-clause-stands : goal.returns-in-DiskStatus-clause-stands
+returns-in-DiskStatus-clause-stands c = λ script step words state s.
     rw c.in-DiskStatus.is
         (record {
           playable = s.playable;

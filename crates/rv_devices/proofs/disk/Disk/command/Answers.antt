@@ -9,8 +9,8 @@ use Rattle.rv_devices.proofs.SendLaws.{no_words}
 use Rattle.rv_devices.proofs.DiskLaws.{not_busy, accepted_below, accepted_sector, writing}
 use Rattle.rv_devices.proofs.disk.Disk.command.Goals as goal
 
-pub returns : goal.returns
-returns c = λ script step words state at serves.
+pub returns-clause-serves : goal.returns-clause-serves
+returns-clause-serves c = λ script step words state at serves.
     let old = c.args.self.now in
     let next = c.write.new.self in
     let w = c.write.ensures in
