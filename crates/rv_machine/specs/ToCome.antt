@@ -10,6 +10,7 @@ use Rattle.hart_model.specs.State.{State}
 use Rattle.machine_model.specs.Board.{BoardState, IsDiskWord, IsUnderWay}
 use Rattle.machine_model.specs.Script.{Script}
 use Rattle.rv_devices.specs.Stands.{Stands, words_due}
+use Rattle.rv_devices.specs.declared.board.Board.{Board}
 use Rattle.rv_machine.specs.Phase.{inside, items_left}
 use Rattle.rv_machine.specs.declared.machine.Advance.{Advance}
 use Rattle.rv_machine.specs.declared.machine.Advance.TheVariants as advance
@@ -37,20 +38,21 @@ MayBeDue (Given supplied) words = words ≡ []
 MayBeDue (Ending cause) words = words ≡ []
 MayBeDue Over words = words ≡ []
 
--- a board of this script that gives a RAM of so many bytes what it may take, after so many steps have begun
-pub record Beside (script : Script) (begun size : ℕ) (words : List DmaWord) (state : BoardState) (m : Machine) : Type 0 where
-  pub stands : Stands script begun words state m.board
-  pub way : IsUnderWay size state.activity
-  pub held : AllByRecursion (IsDiskWord size) words
-
--- these items are still to come
-pub record ToCome (m : Machine) (items : List Item) : Type 0 where
+-- A hart and a board in a phase of a step, with so many steps left after the one that has begun, and these lines held:
+-- the board gives RAM what it may take, and these items are still to come.
+pub record Awaits (phase : Phase) (left lines : ℕ) (s : State) (b : Board) (items : List Item) : Type 0 where
   pub script : Script
   pub state : BoardState
   pub words : List DmaWord
-  pub beside : Beside script (m.cpu.step + inside m.phase) (length m.cpu.ram) words state m
-  pub due : MayBeDue m.phase words
-  pub are : items ≡ coming script m.phase m.left m.cpu.step m.lines m.cpu state words
+  pub stands : Stands script (s.step + inside phase) words state b
+  pub way : IsUnderWay (length s.ram) state.activity
+  pub held : AllByRecursion (IsDiskWord (length s.ram)) words
+  pub due : MayBeDue phase words
+  pub are : items ≡ coming script phase left s.step lines s state words
+
+-- these items are still to come of a machine
+abbrev pub ToCome : Machine → List Item → Type 0
+ToCome m items = Awaits m.phase m.left m.lines m.cpu m.board items
 
 -- this item is the next one of them, and the others are to come after it
 pub record IsNext (item : Item) (items : List Item) (after : Machine) : Type 0 where

@@ -4,7 +4,5 @@
 mod machine;
 mod phase;
 mod told;
-#[cfg(test)]
-mod tests;
 
 pub use machine::{Advance, Machine};

@@ -1,0 +1,126 @@
+-- A hart and a board that go from phase to phase: what was to come is to come, or the next item is given.
+use Rattle.std.proofs.Common.{◌≡◌, ℕ, suc, ◌+◌, ◌-◌, ◌<◌, List, [], ◌∷◌, ◌++◌, length, drop, slice_get, Option, None, Some, true, false, refl, sym, ap, subst, ◌∙◌, arith, add-one}
+use Rattle.std.specs.List.{AllByRecursion}
+use Rattle.run_events.specs.declared.event.Event.{Event}
+use Rattle.run_events.specs.declared.item.Item.{Item}
+use Rattle.run_events.specs.declared.record.EndCause.TheVariants.{Limit}
+use Rattle.run_events.specs.declared.record.Record.TheVariants.{Lines as LinesRecord, Load as LoadRecord}
+use Rattle.run_events.specs.declared.supply.DmaWord.{DmaWord}
+use Rattle.run_events.specs.declared.supply.Need.TheVariants.{Load}
+use Rattle.run_events.specs.declared.supply.Supplied.{Supplied}
+use Rattle.any_machine.specs.Log.{plain_item, word_record}
+use Rattle.any_machine.specs.Recorder.{end_item}
+use Rattle.board_model.specs.TheBoard.{board}
+use Rattle.hart_model.specs.State.{State}
+use Rattle.hart_model.specs.Step.{needs, touch}
+use Rattle.machine_model.specs.Board as model
+use Rattle.machine_model.specs.Board.{BoardState}
+use Rattle.machine_model.specs.Script.{Script}
+use Rattle.machine_model.proofs.BoardLaws.{words_are_held, way_at_step, way_after_load}
+use Rattle.rv_devices.specs.Stands.{Stands}
+use Rattle.rv_devices.specs.declared.board.Board.{Board}
+use Rattle.rv_machine.specs.ToCome.{Awaits, coming}
+use Rattle.rv_machine.specs.declared.phase.Phase.TheVariants.{Between, Words, Lines, Need, Given, Ending, Over}
+use Rattle.rv_machine.proofs.ComingLaws.{coming-limit, coming-begin, coming-word, coming-words, coming-same, coming-told, coming-load}
+
+-- the next item of these is this one, and then a hart and a board await the rest
+record Follows (item : Item) (items : List Item) (After : List Item → Type 0) : Type 0 where
+  pub rest : List Item
+  pub are : items ≡ item ∷ rest
+  pub after : After rest
+
+module _ (left lines : ℕ) (s : State) (b after : Board) (items : List Item) where
+  -- a step begins
+  pub begun : ((script : Script) (state : BoardState) → Stands script s.step [] state b → Stands script (s.step + 1) (model.words_before s.step state) (model.at_step s.step state) after)
+      → Awaits Between (suc left) lines s b items → Awaits Words left lines s after items
+  begun goes is = record {
+    script = is.script;
+    state = model.at_step s.step is.state;
+    words = model.words_before s.step is.state;
+    stands = goes is.script is.state (subst (λ words. Stands is.script s.step words is.state b) is.due (subst (λ n. Stands is.script n is.words is.state b) (omega arith) is.stands));
+    way = way_at_step (length s.ram) s.step is.state is.way;
+    held = words_are_held (length s.ram) s.step is.state is.way;
+    due = tt;
+    are = is.are ∙ coming-begin is.script left s.step lines s is.state is.words;
+  }
+
+  -- no word is left
+  pub written : ((script : Script) (n : ℕ) (words : List DmaWord) (state : BoardState) → Stands script n words state b → None ≡ slice_get words 0)
+      → ((script : Script) (n : ℕ) (words : List DmaWord) (state : BoardState) → Stands script n words state b → Stands script n (drop 1 words) state after)
+      → Awaits Words left lines s b items → Awaits Lines left lines s after items
+  written none goes is = by is.words refl
+    where
+      by : (words : List DmaWord) → is.words ≡ words → Awaits Lines left lines s after items
+      by [] same = record {
+        script = is.script;
+        state = is.state;
+        words = [];
+        stands = subst (λ words. Stands is.script (s.step + 1) words is.state after) (ap (λ words. drop 1 words) same) (goes is.script (s.step + 1) is.words is.state is.stands);
+        way = is.way;
+        held = tt;
+        due = refl;
+        are = is.are ∙ ap (coming is.script Words left s.step lines s is.state) same ∙ coming-words is.script left s.step lines s is.state;
+      }
+      by (word ∷ words) same = let no : None ≡ Some word = none is.script (s.step + 1) is.words is.state is.stands ∙ ap (λ l. slice_get l 0) same in absurd (cc)
+
+  -- the lines are those that are held
+  pub unchanged : (bits : ℕ) → ((script : Script) (n : ℕ) (words : List DmaWord) (state : BoardState) → Stands script (n + 1) words state b → bits ≡ model.board_lines script n state) → bits ≡ lines
+      → Awaits Lines left lines s b items → Awaits Need left lines s b items
+  unchanged bits are same is = record {
+    script = is.script;
+    state = is.state;
+    words = is.words;
+    stands = is.stands;
+    way = is.way;
+    held = is.held;
+    due = is.due;
+    are = is.are ∙ ap (coming is.script Lines left s.step lines s is.state) is.due ∙ coming-same is.script left s.step lines bits s is.state (are is.script s.step is.words is.state is.stands) same ∙ ap (coming is.script Need left s.step lines s is.state) (sym is.due);
+  }
+
+  -- or they are told
+  pub told : (bits : ℕ) → ((script : Script) (n : ℕ) (words : List DmaWord) (state : BoardState) → Stands script (n + 1) words state b → bits ≡ model.board_lines script n state) → (bits ≡ lines → ⊥)
+      → Awaits Lines left lines s b items → Follows (plain_item (LinesRecord s.step bits)) items (λ rest. Awaits Need left bits s b rest)
+  told bits are other is = record {
+    rest = coming is.script Need left s.step bits s is.state [];
+    are = is.are ∙ ap (coming is.script Lines left s.step lines s is.state) is.due ∙ coming-told is.script left s.step lines bits s is.state (are is.script s.step is.words is.state is.stands) other;
+    after = record {
+      script = is.script;
+      state = is.state;
+      words = [];
+      stands = subst (λ words. Stands is.script (s.step + 1) words is.state b) is.due is.stands;
+      way = is.way;
+      held = tt;
+      due = refl;
+      are = refl;
+    };
+  }
+
+  -- a device register gives the step what it needs
+  pub loaded : (given : Supplied) (address width : ℕ) → needs s lines ≡ Load address width
+      → ((script : Script) (n : ℕ) (words : List DmaWord) (state : BoardState) → Stands script (n + 1) words state b → given ≡ model.given_at script n state address)
+      → ((script : Script) (n : ℕ) (words : List DmaWord) (state : BoardState) → Stands script (n + 1) words state b → Stands script (n + 1) words (model.after_load script n state address) after)
+      → Awaits Need left lines s b items → Follows (plain_item (LoadRecord s.step given.value given.mark)) items (λ rest. Awaits (Given given) left lines s after rest)
+  loaded given address width needed value goes is =
+      let same = value is.script s.step is.words is.state is.stands in
+      let state = model.after_load is.script s.step is.state address in
+      record {
+        rest = coming is.script (Given given) left s.step lines s state [];
+        are =
+            is.are ∙ ap (coming is.script Need left s.step lines s is.state) is.due
+            ∙ subst (λ (g : Supplied). coming is.script Need left s.step lines s is.state [] ≡ plain_item (LoadRecord s.step g.value g.mark) ∷ coming is.script (Given g) left s.step lines s state []) (sym same)
+            (coming-load is.script left s.step lines address width s is.state needed);
+        after = record {
+          script = is.script;
+          state = state;
+          words = [];
+          stands = subst (λ words. Stands is.script (s.step + 1) words state after) is.due (goes is.script s.step is.words is.state is.stands);
+          way = way_after_load (length s.ram) is.script s.step is.state address is.way;
+          held = tt;
+          due = refl;
+          are = refl;
+        };
+      }
+
+  -- no step is left
+  pub limited : Awaits Between 0 lines s b items → items ≡ end_item s.step Limit ∷ []
+  limited is = is.are ∙ coming-limit is.script s.step lines s is.state is.words
