@@ -1,1 +1,3 @@
+mod DiskExample
+mod GuestExamples
 pub mod SoundBoard

@@ -8,3 +8,4 @@ pub mod OutcomeLaws
 pub mod RegisterLaws
 pub mod SoundLaws
 pub mod StepCases
+pub mod DeviceLaws

@@ -27,16 +27,16 @@ use Rattle.hart_model.specs.Operations.{sum, load_width, store_width, csr_result
 use Rattle.hart_model.specs.State.{State, register}
 use Rattle.hart_model.specs.Step.{outcome}
 
--- the bytes of an access that goes to RAM stand in a RAM of so many bytes
+-- the bytes of an access that goes to RAM stand in a RAM of so many bytes, and any other goes to a device register
 pub record IsInside (bytes address width : ℕ) : Type 0 where
   pub whole : IsWidth width
   pub within : InRam bytes address width
 
 abbrev pub AccessInside : ℕ → Access → Type 0
 AccessInside bytes access.Quiet = Unit {0}
-AccessInside bytes (access.Load address width value true mark) = Unit {0}
+AccessInside bytes (access.Load address width value true mark) = is_device address ≡ true
 AccessInside bytes (access.Load address width value false mark) = IsInside bytes address width
-AccessInside bytes (access.Store address width value true) = Unit {0}
+AccessInside bytes (access.Store address width value true) = is_device address ≡ true
 AccessInside bytes (access.Store address width value false) = IsInside bytes address width
 AccessInside bytes (access.Swap address old new) = IsInside bytes address 4
 
@@ -88,12 +88,12 @@ module _ (s : State) (size : ℕ) where
   loading_keeps : (supplied : Option Supplied) (op : LoadOp) (rd address : ℕ) → OutcomeKeeps s size (Effect.loading s supplied size op rd address)
   loading_keeps supplied op rd address =
       accessing_keeps address (load_width op) 4 _ _ (λ held. keeps_access _ refl refl (record { whole = load_whole op; within = held }))
-      (choice (OutcomeKeeps s size) (is_device address) _ _ (λ device. keeps_access _ refl refl tt) (λ other. tt))
+      (choice (OutcomeKeeps s size) (is_device address) _ _ (λ device. keeps_access _ refl refl device) (λ other. tt))
 
   storing_keeps : (op : StoreOp) (value address : ℕ) → OutcomeKeeps s size (Effect.storing s size op value address)
   storing_keeps op value address =
       accessing_keeps address (store_width op) 6 _ _ (λ held. keeps_access _ refl refl (record { whole = store_whole op; within = held }))
-      (choice (OutcomeKeeps s size) (is_device address) _ _ (λ device. keeps_access _ refl refl tt) (λ other. tt))
+      (choice (OutcomeKeeps s size) (is_device address) _ _ (λ device. keeps_access _ refl refl device) (λ other. tt))
 
   word_inside : (address : ℕ) → InRam (length s.ram) address 4 → IsInside (length s.ram) address 4
   word_inside address held = record { whole = inr (inr refl); within = held }

@@ -1,5 +1,4 @@
 pub mod Board
-pub mod Guest
 pub mod Image
 pub mod Instruction
 pub mod Items
