@@ -3,7 +3,6 @@ pub mod ItemLaws
 pub mod NumberLaws
 mod BoardExamples
 pub mod BoardLaws
-mod GuestExamples
 mod ReplayExamples
 pub mod RunLaws
 pub mod ShownLaws
