@@ -53,9 +53,15 @@ zeros first last = record { place = Range first last; reads = λ c lines. 0; kee
 abbrev pub mstatus : Csrs → ℕ
 mstatus c = 0x1800 + bit_if 7 c.interrupts_before + bit_if 3 c.interrupts
 
+abbrev pub with_mstatus : Csrs → ℕ → Csrs
+with_mstatus c value = record c { interrupts = has_bit 3 value; interrupts_before = has_bit 7 value }
+
 -- mie: bit 7 is the timer's, bit 11 the external interrupt's
 abbrev pub mie : Csrs → ℕ
 mie c = bit_if 11 c.external_enabled + bit_if 7 c.timer_enabled
+
+abbrev pub with_mie : Csrs → ℕ → Csrs
+with_mie c value = record c { timer_enabled = has_bit 7 value; external_enabled = has_bit 11 value }
 
 -- the interrupt lines: bit 0 is the timer's, bit 1 the external one
 abbrev pub timer_line : ℕ → Bool
@@ -71,9 +77,9 @@ mip lines = bit_if 11 (external_line lines) + bit_if 7 (timer_line lines)
 -- machine mode's status, traps and interrupts. misa tells of RV32IMA.
 abbrev pub status_rows : List Row
 status_rows =
-    row 0x300 (λ c lines. mstatus c) (λ c value. record c { interrupts = has_bit 3 value; interrupts_before = has_bit 7 value })
+    row 0x300 (λ c lines. mstatus c) with_mstatus
     ∷ row 0x301 (λ c lines. 0x40001101) (λ c value. c)
-    ∷ row 0x304 (λ c lines. mie c) (λ c value. record c { timer_enabled = has_bit 7 value; external_enabled = has_bit 11 value })
+    ∷ row 0x304 (λ c lines. mie c) with_mie
     ∷ row 0x305 (λ c lines. c.mtvec) (λ c value. record c { mtvec = value - value / 2 % 2 * 2 })
     ∷ zeros 0x310 0x310
     ∷ row 0x340 (λ c lines. c.mscratch) (λ c value. record c { mscratch = value })
@@ -83,13 +89,20 @@ status_rows =
     ∷ row 0x344 (λ c lines. mip lines) (λ c value. c)
     ∷ []
 
--- the counters of steps and of retired instructions, in halves. A written counter does not rise when the step ends.
+-- a counter that was written, which does not rise when the step ends
+abbrev pub with_mcycle : Csrs → ℕ → Csrs
+with_mcycle c counter = record c { mcycle = counter; mcycle_written = true }
+
+abbrev pub with_minstret : Csrs → ℕ → Csrs
+with_minstret c counter = record c { minstret = counter; minstret_written = true }
+
+-- the counters of steps and of retired instructions, in halves
 abbrev pub counter_rows : List Row
 counter_rows =
-    row 0xb00 (λ c lines. low c.mcycle) (λ c value. record c { mcycle = with_low c.mcycle value; mcycle_written = true })
-    ∷ row 0xb02 (λ c lines. low c.minstret) (λ c value. record c { minstret = with_low c.minstret value; minstret_written = true })
-    ∷ row 0xb80 (λ c lines. high c.mcycle) (λ c value. record c { mcycle = with_high c.mcycle value; mcycle_written = true })
-    ∷ row 0xb82 (λ c lines. high c.minstret) (λ c value. record c { minstret = with_high c.minstret value; minstret_written = true })
+    row 0xb00 (λ c lines. low c.mcycle) (λ c value. with_mcycle c (with_low c.mcycle value))
+    ∷ row 0xb02 (λ c lines. low c.minstret) (λ c value. with_minstret c (with_low c.minstret value))
+    ∷ row 0xb80 (λ c lines. high c.mcycle) (λ c value. with_mcycle c (with_high c.mcycle value))
+    ∷ row 0xb82 (λ c lines. high c.minstret) (λ c value. with_minstret c (with_high c.minstret value))
     ∷ []
 
 -- the counters of performance and what chooses their events: mcountinhibit, mhpmevent3 to 31, mhpmcounter3 to 31 and

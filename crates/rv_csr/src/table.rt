@@ -1,5 +1,5 @@
 //! Reads and writes by address.
-ghost use Rattle.std.specs.Prelude.{◌≡◌, ◌<◌, true, is_some, unwrap_or};
+ghost use Rattle.std.specs.Prelude.{◌≡◌, ◌<◌, is_some, unwrap_or};
 ghost use Rattle.rv_csr.specs.Table as model;
 
 use crate::addresses::{
@@ -36,28 +36,28 @@ fn is_read_only(address: u32) -> bool
 
 impl Csrs {
     fn set_mstatus(&mut self, value: u32)
-        ensures { self.new ≡ record self.old { interrupts = model.has_bit 3 value; interrupts_before = model.has_bit 7 value } }
+        ensures { self.new ≡ model.with_mstatus self.old value }
     {
         self.interrupts = has_bit(3, value);
         self.interrupts_before = has_bit(7, value);
     }
 
     fn set_mie(&mut self, value: u32)
-        ensures { self.new ≡ record self.old { timer_enabled = model.has_bit 7 value; external_enabled = model.has_bit 11 value } }
+        ensures { self.new ≡ model.with_mie self.old value }
     {
         self.timer_enabled = has_bit(7, value);
         self.external_enabled = has_bit(11, value);
     }
 
     fn set_mcycle(&mut self, counter: u64)
-        ensures { self.new ≡ record self.old { mcycle = counter; mcycle_written = true } }
+        ensures { self.new ≡ model.with_mcycle self.old counter }
     {
         self.mcycle = counter;
         self.mcycle_written = true;
     }
 
     fn set_minstret(&mut self, counter: u64)
-        ensures { self.new ≡ record self.old { minstret = counter; minstret_written = true } }
+        ensures { self.new ≡ model.with_minstret self.old counter }
     {
         self.minstret = counter;
         self.minstret_written = true;
