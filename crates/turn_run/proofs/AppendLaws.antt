@@ -163,7 +163,10 @@ module _ {M F : Type 0} (r : Recording M) (f : Following F) (c : Course) (core :
 -- an append leaves each reader one record more
 unread-more : (appended : ℕ) (taken : List ℕ) → sum_by (λ count. (appended + 1) - count) taken ≤ sum_by (λ count. appended - count) taken + length taken
 unread-more appended [] = omega arith
-unread-more appended (count ∷ taken) = omega (arith, unread-more appended taken)
+unread-more appended (count ∷ taken) =
+    let more : sum_by (λ count. (appended + 1) - count) (count ∷ taken) ≡ ((appended + 1) - count) + sum_by (λ count. (appended + 1) - count) taken = refl in
+    let was : sum_by (λ count. appended - count) (count ∷ taken) ≡ (appended - count) + sum_by (λ count. appended - count) taken = refl in
+    omega (arith, unread-more appended taken, more, was)
 
 -- an issue lets at most one byte more wait
 issue_more : (gate : GateState) (step byte : ℕ) → length (with_issue gate step byte).steps ≤ length gate.steps + 1
@@ -193,7 +196,7 @@ lessens_append left left' before hub gate gate' i less  opened none hub_is gate_
     let paid : (left' + 1) * (length before.taken + 2) ≤ left * (length before.taken + 2) = mul-le (left' + 1) (length before.taken + 2) left (length before.taken + 2) (omega (arith, less)) (omega arith) in
     let one : (left' + 1) * (length before.taken + 2) ≡ left' * (length before.taken + 2) + (length before.taken + 2) = grind arith in
     let same : left' * (length hub.taken + 2) ≡ left' * (length before.taken + 2) = ap (λ l. left' * (length l + 2)) taken in
-    omega (arith, more, room, paid, one, same, ap (λ b. cond b 0 1) closed)
+    omega (arith, more, room, paid, one, same, ap {B = ℕ} (λ b. cond b 0 1) closed)
 
 -- the close is one turn less
 pub lessens_close : (left left' : ℕ) (before hub : HubState) (waiting : ℕ) → left' ≤ left → before.closed ≡ false → hub ≡ with_close before
@@ -201,8 +204,8 @@ pub lessens_close : (left left' : ℕ) (before hub : HubState) (waiting : ℕ) �
 lessens_close left left' before hub waiting less opened hub_is =
     let taken : hub.taken ≡ before.taken = ap (λ (h : HubState). h.taken) hub_is in
     let same : unread hub ≡ unread before = ap unread hub_is in
-    let closed : cond hub.closed 0 1 ≡ 0 = ap (λ (h : HubState). cond h.closed 0 1) hub_is in
-    let was : cond before.closed 0 1 ≡ 1 = ap (λ b. cond b 0 1) opened in
+    let closed : cond {A = ℕ} hub.closed 0 1 ≡ 0 = ap {B = ℕ} (λ (h : HubState). cond h.closed 0 1) hub_is in
+    let was : cond {A = ℕ} before.closed 0 1 ≡ 1 = ap {B = ℕ} (λ b. cond b 0 1) opened in
     let paid : left' * (length hub.taken + 2) ≤ left * (length before.taken + 2) = mul-le left' (length hub.taken + 2) left (length before.taken + 2) less (omega (arith, ap length taken)) in
     omega (arith, same, closed, was, paid)
 
@@ -211,4 +214,4 @@ pub lessens_none : (left left' : ℕ) (before hub : HubState) (waiting : ℕ) �
     → left' * (length hub.taken + 2) + cond hub.closed 0 1 + unread hub + waiting ≤ left * (length before.taken + 2) + cond before.closed 0 1 + unread before + waiting
 lessens_none left left' before hub waiting less same =
     let paid : left' * (length hub.taken + 2) ≤ left * (length before.taken + 2) = mul-le left' (length hub.taken + 2) left (length before.taken + 2) less (omega (arith, ap (λ (h : HubState). length h.taken) same)) in
-    omega (arith, paid, ap unread same, ap (λ (h : HubState). cond h.closed 0 1) same)
+    omega (arith, paid, ap unread same, ap {B = ℕ} (λ (h : HubState). cond h.closed 0 1) same)

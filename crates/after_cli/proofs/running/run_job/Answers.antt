@@ -22,7 +22,12 @@ returns-in-Err-ran g c =
           (WritesPart-more g.O.Sink.told c.args.out.now c.run_turns-ran.new.out (released_bytes of) (report_text of)
           (WritesPart-prefix g.O.Sink.told c.args.out.now c.run_turns-ran.new.out (released_by of count) (released_bytes of) (released_by_IsPrefix of course count) stopped.put));
       closing_is = inl (record {
-        put = WritesPart-same g.O.Sink.told c.args.out.now c.run_turns-ran.new.out (ap (λ (hub : HubState). released_by of hub.appended) (sym (ap (λ (closing : Closing). closing.hub) c.finish-closing.ensures.parts))) stopped.put;
+        put = record {
+          part = stopped.put.part;
+          is_prefix = subst (λ (hub : HubState). IsPrefix stopped.put.part (released_by of hub.appended)) (sym (ap (λ (closing : Closing). closing.hub) c.finish-closing.ensures.parts)) stopped.put.is_prefix;
+          added = stopped.put.added;
+          rose = stopped.put.rose;
+        };
         counted = omega (arith, stopped.counted, ap (λ (closing : Closing). closing.gate.released) c.finish-closing.ensures.parts);
         closes = c.finish-closing.ensures.front of stopped.stopped;
       });
