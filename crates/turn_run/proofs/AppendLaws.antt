@@ -2,6 +2,7 @@
 use Rattle.std.proofs.Common.{◌≡◌, ◌⊎◌, inl, inr, ℕ, ◌+◌, ◌-◌, ◌*◌, ◌<◌, ◌≤◌, Bool, true, false, cond, List, [], ◌∷◌, ◌++◌, length, take, drop, Option, Some, None, refl, sym, ap, subst, ◌∙◌, arith}
 use Rattle.std.specs.Prelude.{◌&&◌, is_some, IfSome, map, slice_index, slice_index_or}
 use Rattle.std.specs.List.{sum_by}
+use Rattle.std.proofs.lemmas.List.Sums.{sum_by-cons}
 use Rattle.std.proofs.lemmas.Nat.{mul-le}
 use Rattle.std.proofs.lemmas.List.{reverse-append, length_push}
 use Rattle.std.proofs.lemmas.Bool.{and_parts, eqb-true}
@@ -164,9 +165,7 @@ module _ {M F : Type 0} (r : Recording M) (f : Following F) (c : Course) (core :
 unread-more : (appended : ℕ) (taken : List ℕ) → sum_by (λ count. (appended + 1) - count) taken ≤ sum_by (λ count. appended - count) taken + length taken
 unread-more appended [] = omega arith
 unread-more appended (count ∷ taken) =
-    let more : sum_by (λ count. (appended + 1) - count) (count ∷ taken) ≡ ((appended + 1) - count) + sum_by (λ count. (appended + 1) - count) taken = refl in
-    let was : sum_by (λ count. appended - count) (count ∷ taken) ≡ (appended - count) + sum_by (λ count. appended - count) taken = refl in
-    omega (arith, unread-more appended taken, more, was)
+    omega (arith, unread-more appended taken, sum_by-cons (λ count. (appended + 1) - count) count taken, sum_by-cons (λ count. appended - count) count taken)
 
 -- an issue lets at most one byte more wait
 issue_more : (gate : GateState) (step byte : ℕ) → length (with_issue gate step byte).steps ≤ length gate.steps + 1
