@@ -1,2 +1,3 @@
 pub mod ComingLaws
+pub mod StoreLaws
 pub mod TurnLaws

@@ -24,7 +24,7 @@ use Rattle.rv_machine.specs.declared.phase.Phase.TheVariants.{Between, Words, Li
 use Rattle.rv_machine.proofs.ComingLaws.{coming-limit, coming-begin, coming-word, coming-words, coming-same, coming-told, coming-load}
 
 -- the next item of these is this one, and then a hart and a board await the rest
-record Follows (item : Item) (items : List Item) (After : List Item → Type 0) : Type 0 where
+pub record Follows (item : Item) (items : List Item) (After : List Item → Type 0) : Type 0 where
   pub rest : List Item
   pub are : items ≡ item ∷ rest
   pub after : After rest

@@ -3,6 +3,8 @@
 
 mod machine;
 mod phase;
+#[cfg(test)]
+mod tests;
 mod told;
 
 pub use machine::{Advance, Machine};

@@ -4,8 +4,8 @@ ghost use Rattle.any_machine.specs.Log.{items};
 ghost use Rattle.any_machine.specs.Machine.{is_load};
 ghost use Rattle.any_machine.specs.Recorder.{end_item};
 ghost use Rattle.board_model.specs.Guest.{run, started};
-ghost use Rattle.board_model.specs.TheBoard.{after_event};
-ghost use Rattle.hart_model.proofs.DeviceLaws.{IsAtRegister};
+ghost use Rattle.board_model.specs.TheBoard.{after_access, after_event};
+ghost use Rattle.hart_model.proofs.DeviceLaws.{AtRegister, IsAtRegister};
 ghost use Rattle.hart_model.specs.Fetch.{grain};
 ghost use Rattle.hart_model.specs.Step.{needs};
 ghost use Rattle.machine_model.specs.Board.{BoardState, IsPlayable};
@@ -231,6 +231,8 @@ impl Machine {
 
     // Gives the end.
     fn end(&mut self, cause: EndCause) -> Item
+        requires outside { inside self.old.phase ≡ 0 }
+        requires quiet { sends self.old.phase ≡ 0 }
         ensures item { result ≡ end_item self.old.cpu.step cause }
         ensures over { self.new.phase ≡ Over }
         ensures same { self.new.board ≡ self.old.board }
@@ -243,7 +245,31 @@ impl Machine {
     }
 }
 
-// What a step's event does to the devices.
+// What a step's access does to the devices.
+fn store_access(board: &mut Board, access: &Access, ram: &Ram)
+    requires begun { 1 ≤ steps_begun board.old }
+    requires at { AtRegister access.now }
+    requires ram { length ram.now ≤ 2 ^ 24 }
+    ensures stands { (script : Outside) (step : ℕ) (words : List DmaWord) (state : BoardState) → Stands script (step + 1) words state board.old → Stands script (step + 1) words (after_access script step ram.now state access.now) board.new }
+    ensures begun { steps_begun board.new ≡ steps_begun board.old }
+    ensures left { words_due board.new ≡ words_due board.old }
+{
+    match *access {
+        Access::Store {
+            address,
+            value,
+            device,
+            ..
+        } => {
+            if device {
+                let _effect = board.store(address, value, ram);
+            }
+        }
+        Access::Quiet | Access::Load { .. } | Access::Swap { .. } => {}
+    }
+}
+
+// What a step's event does to them.
 fn store_outside(board: &mut Board, event: &Event, ram: &Ram)
     requires begun { 1 ≤ steps_begun board.old }
     requires at { IsAtRegister event.now }
@@ -252,17 +278,9 @@ fn store_outside(board: &mut Board, event: &Event, ram: &Ram)
     ensures begun { steps_begun board.new ≡ steps_begun board.old }
     ensures left { words_due board.new ≡ words_due board.old }
 {
-    if let Event::Exec {
-        access: Access::Store {
-            address,
-            value,
-            device: true,
-            ..
-        },
-        ..
-    } = *event
-    {
-        let _effect = board.store(address, value, ram);
+    match event {
+        Event::Exec { access, .. } => store_access(board, access, ram),
+        Event::Dma { .. } | Event::Irq { .. } | Event::Trap { .. } => {}
     }
 }
 
