@@ -79,7 +79,14 @@ impl Machine {
 
     /// The guest of an image at step 0, beside the board of this script and this disk file, which will be run for at most
     /// `limit` steps. RAM has 64 to 16,384 KiB, the disk file at most 16 MiB. It is the only call that takes memory.
-    pub fn new(alloc: Global, image: &Image, script: Script, disk: Vec<u8>, ram_kib: u32, limit: u32) -> Result<Machine, NoMemory>
+    pub fn new(
+        alloc: Global,
+        image: &Image,
+        script: Script,
+        disk: Vec<u8>,
+        ram_kib: u32,
+        limit: u32,
+    ) -> Result<Machine, NoMemory>
         requires least { 64 ≤ ram_kib }
         requires most { ram_kib ≤ 16384 }
         requires limit { limit ≤ 1000000000 }
@@ -219,7 +226,9 @@ impl Machine {
 
     // Does the step with what it was given, and tells that it is done where that is told.
     fn finish(&mut self, supplied: Option<Supplied>) -> Option<Item>
-        requires { Supplies self.old.phase supplied (needs self.old.cpu self.old.lines) }
+        requires inside { inside self.old.phase ≡ 1 }
+        requires quiet { sends self.old.phase ≡ 0 }
+        requires given { Supplies self.old.phase supplied (needs self.old.cpu self.old.lines) }
         ensures { Turned result self.old self.new }
     {
         let step = self.cpu.steps();
@@ -236,6 +245,7 @@ impl Machine {
         ensures item { result ≡ end_item self.old.cpu.step cause }
         ensures over { self.new.phase ≡ Over }
         ensures same { self.new.board ≡ self.old.board }
+        ensures hart { self.new.cpu ≡ self.old.cpu }
     {
         self.phase = Phase::Over;
         plain(Record::End {
