@@ -50,12 +50,12 @@ load_fits file size at index here e =
     elim (either_of (not (eqb (field_at file at 4) 1) || eqb wanted 0) (Ok []) first (Ok here) e) [
       | inl t ↦ subst (LoadsFit size) (ok_is [] here t.1) tt
       | inr t ↦ let shape = passed_ok (ltb wanted given) (SegmentShape index) second here t.1 in
-        let short = passed_ok (ltb (length file) (offset + given)) (Short (offset + given)) last here shape.1 in
-        let outside = passed_ok (not (in_ram size address wanted)) (SegmentOutside index) (Ok (load ∷ [])) here short.1 in
-        let within = in_ram_is size address wanted (not-false (in_ram size address wanted) outside.0) in
-        let enough : given ≤ wanted = ltb-false wanted given shape.0 in
-        let few : length (take given (drop offset file)) ≤ wanted = omega (arith, length-take given (drop offset file)) in
-        subst (LoadsFit size) (ok_is (load ∷ []) here outside.1) (record { within = within; given = few }, tt)
+          let short = passed_ok (ltb (length file) (offset + given)) (Short (offset + given)) last here shape.1 in
+          let outside = passed_ok (not (in_ram size address wanted)) (SegmentOutside index) (Ok (load ∷ [])) here short.1 in
+          let within = in_ram_is size address wanted (not-false (in_ram size address wanted) outside.0) in
+          let enough : given ≤ wanted = ltb-false wanted given shape.0 in
+          let few : length (take given (drop offset file)) ≤ wanted = omega (arith, length-take given (drop offset file)) in
+          subst (LoadsFit size) (ok_is (load ∷ []) here outside.1) (record { within = within; given = few }, tt)
     ]
 
 fit_both : (size : ℕ) (here more : List Load) → LoadsFit size here → LoadsFit size more → LoadsFit size (here ++ more)
@@ -142,5 +142,5 @@ read_fits ram_kib file image some e =
     elim (either_of (is_elf file) (elf_in size file) flat (Ok image) e) [
       | inl t ↦ elf_fits size file image t.1
       | inr t ↦ let few = passed_ok (ltb size (length file)) (SegmentOutside 0) (Ok (flat_image file)) image t.1 in
-        subst (ImageFits size) (ok_is (flat_image file) image few.1) (flat_fits size file (omega arith) (ltb-false size (length file) few.0))
+          subst (ImageFits size) (ok_is (flat_image file) image few.1) (flat_fits size file (omega arith) (ltb-false size (length file) few.0))
     ]

@@ -40,7 +40,7 @@ least_found p from (suc count) zero n at less holds none =
     rw first (ap Some (sym here))
 least_found p from (suc count) (suc before) n at less holds none =
     rw (EachFrom-first (λ k. p k ≡ false) from before none)
-      (least_found p (from + 1) count before n (omega arith) (omega arith) holds (EachFrom-rest (λ k. p k ≡ false) from before none))
+    (least_found p (from + 1) count before n (omega arith) (omega arith) holds (EachFrom-rest (λ k. p k ≡ false) from before none))
 
 -- what is made of the least one, where properties agree, and what is made of those that have it
 pub least_made : {A : Type 0} (f g : ℕ → A) (p q : ℕ → Bool) (from count : ℕ) → EachFrom (λ n. p n ≡ q n) from count → EachFrom (λ n. f n ≡ g n) from count

@@ -21,9 +21,10 @@ length-words_of (suc left) bytes address mark = ap suc (length-words_of left _ (
 words_fit : (size left : ℕ) (bytes : List ℕ) (address mark : ℕ) → address % 4 ≡ 0 → InRam size address (4 * left) → IsMark mark → AllByRecursion (Board.IsDiskWord size) (Board.words_of left bytes address mark)
 unfolding Board.words_of
 words_fit size zero bytes address mark aligned within marked = tt
-words_fit size (suc left) bytes address mark aligned within marked =
-    (record { aligned = aligned; within = record { from = within.from; to = omega (arith, within.to) }; marked = marked },
-    words_fit size left _ (address + 4) mark (omega (arith, aligned)) (record { from = omega (arith, within.from); to = omega (arith, within.to) }) marked)
+words_fit size (suc left) bytes address mark aligned within marked = (
+  record { aligned = aligned; within = record { from = within.from; to = omega (arith, within.to) }; marked = marked },
+  words_fit size left _ (address + 4) mark (omega (arith, aligned)) (record { from = omega (arith, within.from); to = omega (arith, within.to) }) marked,
+)
 
 flag_fits : (flag : Bool) → IsMark (if flag then 1 else 0)
 flag_fits true = omega arith

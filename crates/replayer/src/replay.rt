@@ -4,9 +4,9 @@ use crate::place::place;
 use crate::running::run_to;
 use crate::{Diverged, Why};
 use elf_image::Image;
+use first_cpu::Cpu;
 use memory_map::NoMemory;
 use run_events::{Record, Watcher};
-use first_cpu::Cpu;
 use rv_memory::Ram;
 use std::alloc::Global;
 

@@ -6,9 +6,9 @@ ghost use Rattle.machine_model.specs.Step.{step_from};
 ghost use Rattle.machine_model.specs.Replay.{events_below};
 ghost use Rattle.replayer.specs.Replays.{IsAt};
 
+use first_cpu::Cpu;
 use memory_map::POWER;
 use run_events::Watcher;
-use first_cpu::Cpu;
 
 /// Executes the steps below a number and shows each, up to one that is not built or behind a power store. `power` is the
 /// status where the last step was one, and so is the answer.

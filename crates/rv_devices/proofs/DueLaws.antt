@@ -133,6 +133,6 @@ pub waits_is : (script : Script) (step taken : ℕ) (s : Schedule) → Follows s
 waits_is script step taken s f =
     ap is_some (waiting_is script step taken s f)
     ∙ elim (cases_lt s.source s.place) [
-        inl below ↦ ap is_some (next_is s (slice_get (arrivals_at s.source s.entries.items) s.taken) below) ∙ some_below (arrivals_at s.source s.entries.items) s.taken (let c : s.taken < length (arrivals_at s.source script.entries) = f.clear below in rw f.entries_are c) ∙ grind (arith, below)
-        | inr past ↦ ap is_some (none_is s (slice_get (arrivals_at s.source s.entries.items) s.taken) past) ∙ grind (arith, past)
-      ]
+      | inl below ↦ ap is_some (next_is s (slice_get (arrivals_at s.source s.entries.items) s.taken) below) ∙ some_below (arrivals_at s.source s.entries.items) s.taken (let c : s.taken < length (arrivals_at s.source script.entries) = f.clear below in rw f.entries_are c) ∙ grind (arith, below)
+      | inr past ↦ ap is_some (none_is s (slice_get (arrivals_at s.source s.entries.items) s.taken) past) ∙ grind (arith, past)
+    ]

@@ -45,7 +45,7 @@ one_left words t within sends =
     sends.words_are
     ∙ words_of-next (unsent t) rest (drop t.sent t.bytes) t.address t.mark more
     ∙ ap (λ l. record { address = t.address; word = from_le_bytes w32 (take 4 (drop t.sent t.bytes)); mark = t.mark } ∷ l)
-        (ap (λ l. words_of rest l (t.address + 4) t.mark) (drop-drop 4 t.sent t.bytes) ∙ words_of-same rest (drop (t.sent + 4) t.bytes) t.mark (t.address + 4) ((t.address + 4) % 4294967296) near)
+    (ap (λ l. words_of rest l (t.address + 4) t.mark) (drop-drop 4 t.sent t.bytes) ∙ words_of-same rest (drop (t.sent + 4) t.bytes) t.mark (t.address + 4) ((t.address + 4) % 4294967296) near)
 
 pub first_left : (words : List DmaWord) (t : Transfer) → t.sent ≤ 508 → Sends words t → Some (record { address = t.address; word = from_le_bytes w32 (take 4 (drop t.sent t.bytes)); mark = t.mark }) ≡ slice_get words 0
 first_left words t within sends = sym (ap (λ l. slice_get l 0) (one_left words t within sends))

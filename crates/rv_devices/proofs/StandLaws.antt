@@ -134,8 +134,8 @@ time_set script step words state board value s below = record {
     since = s.times.since;
     until = s.times.until;
     count_is =
-      set_to (s.times.rises + ticks_before board.schedule.place script.entries) value below
-      ∙ ap (λ n. (s.times.rises + ticks_before board.schedule.place script.entries + (value + (2 ^ 64 - n % 2 ^ 64)) % 2 ^ 64) % 2 ^ 64) (sym (elapsed_is script step words state board s));
+        set_to (s.times.rises + ticks_before board.schedule.place script.entries) value below
+        ∙ ap (λ n. (s.times.rises + ticks_before board.schedule.place script.entries + (value + (2 ^ 64 - n % 2 ^ 64)) % 2 ^ 64) % 2 ^ 64) (sym (elapsed_is script step words state board s));
   };
   compare_is = s.compare_is;
   serial_is = s.serial_is;
@@ -152,7 +152,7 @@ pub loaded : (script : Script) (step : ℕ) (words : List DmaWord) (state : Boar
 loaded script step words state board schedule s follows place =
     let waits : model.waits script step state ≡ nat_lt board.schedule.source board.schedule.place = waits_is script step state.taken board.schedule s.follows in
     let more : model.after_load script step state SERIAL_DATA ≡ record state { taken = if nat_lt board.schedule.source board.schedule.place then state.taken + 1 else state.taken } =
-        ap (λ b. if b then record state { taken = state.taken + 1 } else state) waits ∙ one_more (nat_lt board.schedule.source board.schedule.place) state in
+    ap (λ b. if b then record state { taken = state.taken + 1 } else state) waits ∙ one_more (nat_lt board.schedule.source board.schedule.place) state in
     subst (λ b. Stands script (step + 1) words b (record board { schedule = schedule })) (sym more) (record {
       playable = s.playable;
       begun_is = s.begun_is;

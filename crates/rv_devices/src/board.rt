@@ -247,10 +247,8 @@ impl Board {
             Register::DiskCommand => self.command(value, ram),
             Register::DiskStatus => self.disk.acknowledge(),
             Register::DiskControl => self.disk.control = value % 2,
-            Register::SerialData
-            | Register::SerialStatus
-            | Register::DiskCount
-            | Register::Power => {}
+            Register::SerialData | Register::SerialStatus | Register::DiskCount | Register::Power =>
+                {}
         }
     }
 

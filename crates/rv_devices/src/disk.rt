@@ -175,7 +175,11 @@ impl Disk {
         self.pending.bytes.copy_from_slice(sector);
         self.pending.sent = 0;
         self.pending.address = self.address;
-        self.pending.mark = if is_named(&self.sectors, self.sector) { 1 } else { 0 };
+        self.pending.mark = if is_named(&self.sectors, self.sector) {
+            1
+        } else {
+            0
+        };
         self.activity = Activity::Busy { before };
     }
 

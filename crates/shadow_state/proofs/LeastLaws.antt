@@ -48,22 +48,21 @@ pub record Tests (set : ℕ) (test : ℕ → Bool) : Type 0 where
   pub has : (value : ℕ) → bit_and value set ≢ 0 → test value ≡ true
 
 module _ (s : Shade) (bytes : (address : ℕ) → shade s address < 2 ^ 8) (set : ℕ) (test : ℕ → Bool) (tests : Tests set test) (from to : ℕ) where
-
   -- over the whole range
   pub searched : (o : Option ℕ) → IfSome o (IsLeast s from to set) → IfNone o (NoneBetween s set from to) → o ≡ least_between (λ address. test (shade s address)) from to
   searched None some none = sym (least_none (λ address. test (shade s address)) from (to - from) (λ n low high. tests.clear (shade s n) (bytes n) (none n low (omega arith))))
   searched (Some address) some none =
       sym (least_found (λ address. test (shade s address)) from (to - from) (address - from) address (omega (arith, some.from_on)) (omega (arith, some.from_on, some.below)) (tests.has (shade s address) some.has_one)
-        (λ n low high. tests.clear (shade s n) (bytes n) (some.none_before n low (omega (arith, some.from_on)))))
+      (λ n low high. tests.clear (shade s n) (bytes n) (some.none_before n low (omega (arith, some.from_on)))))
 
   -- and clipped to RAM
   pub searched_in_ram : (o : Option ℕ) → IfSome o (IsLeast s from to set) → IfNone o (NoneBetween s set from to) → o ≡ least_between (λ address. test (shade s address)) (max from RAM_START) (min to (RAM_START + length s.bytes))
   searched_in_ram None some none =
       sym (least_none (λ address. test (shade s address)) (max from RAM_START) (min to (RAM_START + length s.bytes) - max from RAM_START)
-        (λ n low high. tests.clear (shade s n) (bytes n) (none n (omega arith) (omega arith))))
+      (λ n low high. tests.clear (shade s n) (bytes n) (none n (omega arith) (omega arith))))
   searched_in_ram (Some address) some none =
       let low_end = in_ram_from s set address some.has_one in
       let high_end = in_ram_to s set address some.has_one in
       sym (least_found (λ address. test (shade s address)) (max from RAM_START) (min to (RAM_START + length s.bytes) - max from RAM_START) (address - max from RAM_START) address
-        (omega (arith, some.from_on, low_end)) (omega (arith, some.from_on, some.below, low_end, high_end)) (tests.has (shade s address) some.has_one)
-        (λ n low high. tests.clear (shade s n) (bytes n) (some.none_before n (omega arith) (omega (arith, some.from_on, low_end)))))
+      (omega (arith, some.from_on, low_end)) (omega (arith, some.from_on, some.below, low_end, high_end)) (tests.has (shade s address) some.has_one)
+      (λ n low high. tests.clear (shade s n) (bytes n) (some.none_before n (omega arith) (omega (arith, some.from_on, low_end)))))

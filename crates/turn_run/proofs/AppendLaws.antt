@@ -186,7 +186,7 @@ item_more gate i = by i.byte
 -- one item less to come pays for what it brings
 pub lessens_append : (left left' : ℕ) (before hub : HubState) (gate gate' : GateState) (i : Item) → left' < left → before.closed ≡ false → full_of before ≡ None → hub ≡ with_append before i.item → gate' ≡ with_item gate i
     → left' * (length hub.taken + 2) + cond hub.closed 0 1 + unread hub + length gate'.steps < left * (length before.taken + 2) + cond before.closed 0 1 + unread before + length gate.steps
-lessens_append left left' before hub gate gate' i less  opened none hub_is gate_is =
+lessens_append left left' before hub gate gate' i less opened none hub_is gate_is =
     let taken : hub.taken ≡ before.taken = ap (λ (h : HubState). h.taken) hub_is in
     let closed : hub.closed ≡ before.closed = ap (λ (h : HubState). h.closed) hub_is in
     let appended : hub.appended ≡ before.appended + 1 = ap (λ (h : HubState). h.appended) hub_is ∙ ap (λ (o : Option Full). cond (is_some o) before.appended (before.appended + 1)) none in

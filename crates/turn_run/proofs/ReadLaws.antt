@@ -72,7 +72,7 @@ module _ {F : Type 0} (f : Following F) (c : Course) (core : CoreState) (hub : H
     sound1 = event_IsSound (plan_of c) core (TakeNext reader) (is_plan c fs.course) fs.sound law.0.may
 
     posted_law : Does (plan_of c) (after_event (plan_of c) core (TakeNext reader)) (Post reader) (slice_set hub.verdicts reader (f.verdict new (take count (log_of c) ++ t.item ∷ [])))
-            (with_verdict (hub_of (plan_of c) (after_event (plan_of c) core (TakeNext reader)) hub.verdicts) reader (f.verdict new (take count (log_of c) ++ t.item ∷ [])))
+        (with_verdict (hub_of (plan_of c) (after_event (plan_of c) core (TakeNext reader)) hub.verdicts) reader (f.verdict new (take count (log_of c) ++ t.item ∷ [])))
         × (approvals (slice_set hub.verdicts reader (f.verdict new (take count (log_of c) ++ t.item ∷ []))) ≡ (after_event (plan_of c) (after_event (plan_of c) core (TakeNext reader)) (Post reader)).approved)
     posted_law = posts (plan_of c) (after_event (plan_of c) core (TakeNext reader)) hub.verdicts reader (f.verdict new (take count (log_of c) ++ t.item ∷ [])) there fs.approved approves_is
 
@@ -119,10 +119,10 @@ module _ {F : Type 0} (f : Following F) (c : Course) (core : CoreState) (hub : H
         ∙ ap (f.verdict new) (sym longer)
         ∙ ap (λ n. f.verdict new (take n (log_of c))) (sym number))
         (λ other follower differs before.
-            ap (λ l. get_or l other no_verdict) verdicts_now
-            ∙ get_or-set_other hub.verdicts reader other (f.verdict new (take count (log_of c) ++ t.item ∷ [])) no_verdict differs
-            ∙ fs.posted other follower before
-            ∙ ap (λ n. f.verdict follower (take n (log_of c))) (sym (others other differs)))
+        ap (λ l. get_or l other no_verdict) verdicts_now
+        ∙ get_or-set_other hub.verdicts reader other (f.verdict new (take count (log_of c) ++ t.item ∷ [])) no_verdict differs
+        ∙ fs.posted other follower before
+        ∙ ap (λ n. f.verdict follower (take n (log_of c))) (sym (others other differs)))
 
     pub follows_now : Follows f c (after_turn c core reader) hub' (slice_set followers reader new)
     follows_now = record {

@@ -7,4 +7,4 @@ returns-then-from-self-clause-stands c = λ script state stands.
     let board = c.args.self.now in
     let below : c.args.step < board.quiet = omega (arith, c.from.ensures) in
     rw (no_words_before script c.args.step c.args.step [] state board stands below, same_state script c.args.step c.args.step [] state board stands below, c.from-then-from-self.ensures)
-        (quiet_step script c.args.step state board stands below (omega arith))
+    (quiet_step script c.args.step state board stands below (omega arith))

@@ -24,18 +24,18 @@ returns-in-DiskCommand-clause-stands c = λ script step words state s. rw c.in-D
 pub returns-in-DiskStatus-clause-stands : goal.returns-in-DiskStatus-clause-stands
 returns-in-DiskStatus-clause-stands c = λ script step words state s.
     rw c.in-DiskStatus.is
-        (record {
-          playable = s.playable;
-          begun_is = s.begun_is;
-          numbered = s.numbered;
-          follows = s.follows;
-          times = s.times;
-          compare_is = s.compare_is;
-          serial_is = s.serial_is;
-          serves = c.acknowledge.ensures.serves script words state s.serves;
-          is_quiet = record {
-            timer = s.is_quiet.timer;
-            entries_later = s.is_quiet.entries_later;
-            disk = c.acknowledge.ensures.quiet c.args.self.now.quiet s.is_quiet.disk;
-          };
-        })
+    (record {
+      playable = s.playable;
+      begun_is = s.begun_is;
+      numbered = s.numbered;
+      follows = s.follows;
+      times = s.times;
+      compare_is = s.compare_is;
+      serial_is = s.serial_is;
+      serves = c.acknowledge.ensures.serves script words state s.serves;
+      is_quiet = record {
+        timer = s.is_quiet.timer;
+        entries_later = s.is_quiet.entries_later;
+        disk = c.acknowledge.ensures.quiet c.args.self.now.quiet s.is_quiet.disk;
+      };
+    })

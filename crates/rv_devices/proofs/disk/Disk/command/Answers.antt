@@ -23,14 +23,14 @@ returns-clause-serves c = λ script step words state at serves.
     let below : old.address + 512 ≤ RAM_START + length ram = accepted_below (length ram) (model.sector_count old.bytes.items) c.args.command old.sector old.address own in
     let kept : length (model.with_sector ram state) ≡ length state.bytes = length-placed state.bytes (512 * state.sector) (take 512 (drop (state.address - RAM_START) ram)) (omega (arith, length-take 512 (drop (state.address - RAM_START) ram), accepted_sector (length ram) (model.sector_count state.bytes) c.args.command state.sector state.address accepted)) in
     rw (writing script step ram c.args.command state idle accepted other)
-        (record {
-          bytes_are = cc (w.bytes, serves.bytes_are, serves.sector_is, serves.address_is);
-          small = omega (arith, serves.small, kept);
-          sectors_are = w.sectors ∙ serves.sectors_are;
-          sector_is = w.sector ∙ serves.sector_is;
-          address_is = w.address ∙ serves.address_is;
-          control_is = w.control ∙ serves.control_is;
-          activity_is = ap (λ a. activity_of a next.pending) w.busy ∙ ap (λ l. model.busy_until c.args.before l) (no_words next.pending w.sent) ∙ ap (λ n. model.busy_until n []) at;
-          below = omega (arith, w.sent, w.to, below, c.requires);
-          sending = rw w.sending serves.sending;
-        })
+    (record {
+      bytes_are = cc (w.bytes, serves.bytes_are, serves.sector_is, serves.address_is);
+      small = omega (arith, serves.small, kept);
+      sectors_are = w.sectors ∙ serves.sectors_are;
+      sector_is = w.sector ∙ serves.sector_is;
+      address_is = w.address ∙ serves.address_is;
+      control_is = w.control ∙ serves.control_is;
+      activity_is = ap (λ a. activity_of a next.pending) w.busy ∙ ap (λ l. model.busy_until c.args.before l) (no_words next.pending w.sent) ∙ ap (λ n. model.busy_until n []) at;
+      below = omega (arith, w.sent, w.to, below, c.requires);
+      sending = rw w.sending serves.sending;
+    })
