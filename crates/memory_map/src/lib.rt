@@ -1,16 +1,54 @@
-//! Where RAM and the device registers of the board lie, and the name for want of memory.
+//! Where RAM and the device registers of the board lie, where instructions begin, and the name for no memory.
 #![tactic(auto)]
 
+mod device;
+
+pub use device::is_device;
 use std::alloc::AllocError;
 
-/// Want of memory: the one answer that no clause ties to a cause.
+/// No memory was found: the one answer that no clause ties to a cause.
 pub type NoMemory = AllocError;
+
+/// An instruction begins at a multiple of this many bytes. (Unprivileged manual, 1.5.)
+pub const GRAIN: u32 = 4;
 
 /// The address of RAM's first byte.
 pub const RAM_START: u32 = 0x8000_0000;
 
-/// The serial line's data register: a store sends its low byte.
+/// The time at which the timer's interrupt line rises, in halves.
+pub const MTIMECMP_LOW: u32 = 0x0200_4000;
+
+pub const MTIMECMP_HIGH: u32 = 0x0200_4004;
+
+/// The timer, in halves.
+pub const MTIME_LOW: u32 = 0x0200_bff8;
+
+pub const MTIME_HIGH: u32 = 0x0200_bffc;
+
+/// The serial line's data register: a load takes the next byte that arrived, a store sends its low byte.
 pub const SERIAL_DATA: u32 = 0x1000_0000;
+
+/// Whether a byte waits on the serial line, and that one may be sent.
+pub const SERIAL_STATUS: u32 = 0x1000_0004;
+
+/// Whether a waiting byte raises the external interrupt line.
+pub const SERIAL_CTRL: u32 = 0x1000_0008;
+
+/// The disk's next command: its sector, its address in RAM, and the command itself.
+pub const DISK_SECTOR: u32 = 0x1000_1000;
+
+pub const DISK_ADDR: u32 = 0x1000_1004;
+
+pub const DISK_CMD: u32 = 0x1000_1008;
+
+/// What the disk is about: idle, busy, done or refused.
+pub const DISK_STATUS: u32 = 0x1000_100c;
+
+/// Whether a command that is done or refused raises the external interrupt line.
+pub const DISK_CTRL: u32 = 0x1000_1010;
+
+/// The number of the disk's sectors.
+pub const DISK_COUNT: u32 = 0x1000_1014;
 
 /// The power register: a store ends the run after its step, and its low byte is the guest's status.
 pub const POWER: u32 = 0x1010_0000;

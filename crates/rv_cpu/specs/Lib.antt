@@ -1,1 +1,3 @@
-pub mod Decoded
+pub mod Midway
+pub mod Plain
+pub mod Sized

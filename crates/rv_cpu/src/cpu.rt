@@ -1,133 +1,129 @@
-//! The hart: state, fetch and step.
-ghost use Rattle.std.specs.Prelude.{◌≡◌, ◌*◌, ◌%◌, ◌<◌, ℕ, Some, length, slice_index, is_some, IsSome, IsNone};
+//! The hart as its callers see it.
+ghost use Rattle.std.specs.Prelude.{◌≡◌, ◌*◌, ◌%◌, ◌<◌, ℕ, false, None, Some, IsTrue, is_some, length, slice_index};
+ghost use Rattle.any_machine.specs.Machine.{is_load};
 ghost use Rattle.run_events.specs.Event.{Fits};
-ghost use Rattle.machine_model.specs.State.{reset_state};
-ghost use Rattle.machine_model.specs.Step.{step_from};
 
-use crate::execute;
-use crate::rv_decode::decode;
-use run_events::Event;
+use crate::engine::Engine;
+use run_events::{Event, Need, Supplied};
 use rv_memory::Ram;
 use std::marker::Model;
 
-/// What a device register gave: its whole word, and a mark of 0 or 1.
-#[derive(Clone, Copy, Debug, PartialEq, Eq)]
-pub struct Supplied {
-    pub value: u32,
-    pub mark: u8,
-}
-
-/// A hart and its RAM. Contracts see the state of the machine's definition.
+/// A hart and its RAM. Contracts see the state of the definition: `hart_model`'s `State`.
 #[derive(Drop)]
 pub struct Cpu {
-    registers: [u32; 32],
-    pc: u32,
-    ram: Ram,
-    steps: u32,
+    engine: Engine,
 }
 
 impl Model for Cpu {
-    ghost use Rattle.std.specs.Prelude.{◌≡◌, ◌%◌, None, length};
-    ghost use Rattle.machine_model.specs.State.{State, state_code, reset_csrs};
+    ghost use Rattle.hart_model.specs.Aligned.{IsAligned};
+    ghost use Rattle.hart_model.specs.State.{State};
 
     ghost Value = { State };
 
-    ghost coded = { state_code };
+    ghost view = { λ c. c.engine };
 
-    ghost view = { λ c. record { registers = c.registers; pc = c.pc; csrs = reset_csrs; ram = c.ram; reservation = None; step = c.steps } };
-
-    ghost invariant = { λ c. c.pc % 4 ≡ 0 };
+    ghost invariant = { λ c. IsAligned c.engine };
 }
 
 impl Cpu {
-    /// A hart at step 0: all registers are 0, no word is reserved. It takes no memory.
+    ghost use Rattle.hart_model.specs.Fetch.{grain};
+    ghost use Rattle.hart_model.specs.Machine.{holds_word};
+    ghost use Rattle.hart_model.specs.State.{register, reset_state};
+    ghost use Rattle.hart_model.specs.Step.{cpu, needs, touch};
+    ghost use Rattle.rv_cpu.specs.Plain.{is_plain};
+
+    /// A hart at step 0: all registers are 0, the CSRs are those of reset, no word is reserved. `entry` is the address of
+    /// its first instruction. It takes no memory.
     pub fn new(ram: Ram, entry: u32) -> Cpu
-        requires { entry % 4 ≡ 0 }
+        requires { entry % grain ≡ 0 }
         ensures { result ≡ reset_state ram entry }
     {
         Cpu {
-            registers: [0; 32],
-            pc: entry,
-            ram,
-            steps: 0,
+            engine: Engine::new(ram, entry),
         }
     }
 
-    /// Whether the next step, with these interrupt lines, is built: the fetch is in RAM, the word is an instruction
-    /// that is built, and its store goes to an aligned place in RAM or to the first byte of a device register.
-    pub fn can_step(&self, _lines: u8) -> bool
-        ensures { result ≡ is_some (step_from self.now) }
+    /// What the next step has to be given, with bit 0 of `lines` for the timer's interrupt line and bit 1 for the
+    /// external one: `Need::Load` exactly where it loads a device register.
+    pub fn next_need(&self, lines: u8) -> Need
+        ensures { result ≡ needs self.now lines }
     {
-        match execute::fetch(self.pc, &self.ram) {
-            None => false,
-            Some(word) => match decode(word) {
-                None => false,
-                Some(instruction) => execute::may_execute(&self.registers, &self.ram, instruction),
-            },
-        }
+        self.engine.next_need(lines)
     }
 
-    /// Does the next step and answers what it shows. No step that is built loads a device register, so nothing is
-    /// supplied. It takes no memory.
-    pub fn step(&mut self, _lines: u8, _supplied: Option<Supplied>) -> Event
-        requires built { IsSome (step_from self.old) }
+    /// Does the next step with these interrupt lines, and with what the device register that it loads gives, and answers
+    /// what it shows. (Unprivileged manual, chapters 2, 3, 7, 8 and 9; Privileged manual, chapter 3.)
+    pub fn step(&mut self, lines: u8, supplied: Option<Supplied>) -> Event
         requires room { self.old.step < 1000000000 }
-        requires supplied { IsNone _supplied }
-        ensures step { step_from self.old ≡ Some (result, self.new) }
+        requires given { is_load (needs self.old lines) ≡ is_some supplied }
+        ensures step { cpu self.old lines supplied ≡ (result, self.new) }
         ensures size { length self.new.ram ≡ length self.old.ram }
         ensures fits { (ram_kib : ℕ) → length self.old.ram ≡ 1024 * ram_kib → Fits ram_kib result }
     {
-        let Some(word) = execute::fetch(self.pc, &self.ram) else {
-            unreachable!()
-        };
-        let Some(instruction) = decode(word) else {
-            unreachable!()
-        };
-        let next = self.pc.wrapping_add(4);
-        let event = Event::Exec {
-            step: self.steps,
-            pc: self.pc,
-            word,
-            next,
-            result: execute::result(&self.registers, instruction),
-            access: execute::access(&self.registers, instruction),
-            told: execute::told(&self.registers),
-        };
-        execute::write_ram(&self.registers, &mut self.ram, instruction);
-        execute::write_register(&mut self.registers, instruction);
-        self.pc = next;
-        self.steps += 1;
-        event
+        self.engine.step(lines, supplied)
+    }
+
+    /// Does the next step where it is a plain one, and leaves what it shows in `event`; else it does nothing. A plain step
+    /// executes an instruction that is no fence, no atomic and none of the privileged manual, and that accesses no device.
+    #[inline(always)]
+    pub fn try_step(&mut self, lines: u8, event: &mut Event) -> bool
+        requires { self.old.step < 1000000000 }
+        ensures plain { result ≡ is_plain self.old lines }
+        ensures step { IsTrue result → cpu self.old lines None ≡ (event.new, self.new) }
+        ensures same { result ≡ false → self.new ≡ self.old }
+        ensures size { length self.new.ram ≡ length self.old.ram }
+        ensures fits { (ram_kib : ℕ) → IsTrue result → length self.old.ram ≡ 1024 * ram_kib → Fits ram_kib event.new }
+    {
+        self.engine.try_step(lines, event)
+    }
+
+    /// Whether the address is that of an aligned word in RAM.
+    pub fn holds(&self, address: u32) -> bool
+        ensures { result ≡ holds_word self.now address }
+    {
+        address % 4 == 0 && self.engine.ram.holds(address, 4)
+    }
+
+    /// The disk writes a word at the address of an aligned word in RAM before the next step, and ends a reservation of it.
+    /// It answers what that shows.
+    pub fn dma(&mut self, address: u32, word: u32, mark: u8) -> Event
+        requires { IsTrue (holds_word self.old address) }
+        ensures touch { touch self.old (record { address = address; word = word; mark = mark }) ≡ (result, self.new) }
+        ensures size { length self.new.ram ≡ length self.old.ram }
+        ensures fits { (ram_kib : ℕ) → length self.old.ram ≡ 1024 * ram_kib → Fits ram_kib result }
+    {
+        self.engine.dma(address, word, mark)
     }
 
     /// The number of steps done.
+    #[inline(always)]
     pub fn steps(&self) -> u32
         ensures { result ≡ self.now.step }
     {
-        self.steps
+        self.engine.steps
     }
 
-    /// The address of the next instruction, a multiple of 4.
+    /// The address of the next instruction.
     pub fn pc(&self) -> u32
         ensures value { result ≡ self.now.pc }
-        ensures aligned { result % 4 ≡ 0 }
+        ensures aligned { result % grain ≡ 0 }
     {
-        self.pc
+        self.engine.pc
     }
 
     /// What a register holds.
     pub fn register(&self, index: u32) -> u32
         requires { index < 32 }
-        ensures { result ≡ slice_index self.now.registers index }
+        ensures { result ≡ register self.now index }
     {
-        self.registers[index as usize]
+        self.engine.register(index)
     }
 
     /// The bytes of RAM.
     pub fn ram(&self) -> &Ram
         ensures { result.now ≡ self.now.ram }
     {
-        &self.ram
+        &self.engine.ram
     }
 }
 

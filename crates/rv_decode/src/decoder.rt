@@ -11,6 +11,7 @@ use crate::instruction::Instr;
 
 /// The instruction that a word spells, or `None` where the manual's listing has no row for it. (Unprivileged manual,
 /// chapter 24.)
+#[inline(always)]
 pub fn decode(word: u32) -> Option<Instr>
     ensures read { result ≡ instruction word }
     ensures once { count_by (λ row. meets row word) rows ≤ 1 }
@@ -21,6 +22,7 @@ pub fn decode(word: u32) -> Option<Instr>
 }
 
 #[tactic(auto, using(crate::proofs::ListingLaws::opcodes))]
+#[inline(always)]
 fn by_opcode(word: u32) -> Option<Instr>
     ensures { result ≡ instruction word }
 {

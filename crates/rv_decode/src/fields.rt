@@ -3,6 +3,7 @@ ghost use Rattle.std.specs.Prelude.{◌≡◌, ℕ, ◌+◌, ◌*◌, ◌/◌, �
 ghost use Rattle.rv_decode.specs.Fields.{rd_of, funct3_of, rs1_of, rs2_of, immediate_i, immediate_s, immediate_b, immediate_u, immediate_j};
 
 /// Bits 11 to 7, the destination register.
+#[inline(always)]
 pub fn rd(word: u32) -> u32
     ensures { result ≡ rd_of word }
 {
@@ -10,6 +11,7 @@ pub fn rd(word: u32) -> u32
 }
 
 /// Bits 14 to 12.
+#[inline(always)]
 pub fn funct3(word: u32) -> u32
     ensures { result ≡ funct3_of word }
 {
@@ -17,6 +19,7 @@ pub fn funct3(word: u32) -> u32
 }
 
 /// Bits 19 to 15, the first source register.
+#[inline(always)]
 pub fn rs1(word: u32) -> u32
     ensures { result ≡ rs1_of word }
 {
@@ -24,6 +27,7 @@ pub fn rs1(word: u32) -> u32
 }
 
 /// Bits 24 to 20, the second source register.
+#[inline(always)]
 pub fn rs2(word: u32) -> u32
     ensures { result ≡ rs2_of word }
 {
@@ -31,6 +35,7 @@ pub fn rs2(word: u32) -> u32
 }
 
 /// The immediate of form I, 12 bits with a sign.
+#[inline(always)]
 pub fn imm_i(word: u32) -> i32
     ensures { result ≡ immediate_i word }
 {
@@ -38,6 +43,7 @@ pub fn imm_i(word: u32) -> i32
 }
 
 /// The immediate of form S, 12 bits with a sign.
+#[inline(always)]
 pub fn imm_s(word: u32) -> i32
     ensures { result ≡ immediate_s word }
 {
@@ -45,6 +51,7 @@ pub fn imm_s(word: u32) -> i32
 }
 
 // all of a branch's immediate but its sign
+#[inline(always)]
 fn low_b(word: u32) -> u32
     ensures value { result ≡ word / 2 ^ 7 % 2 * 2 ^ 11 + word / 2 ^ 25 % 2 ^ 6 * 2 ^ 5 + word / 2 ^ 8 % 2 ^ 4 * 2 }
     ensures below { result < 2 ^ 12 }
@@ -53,6 +60,7 @@ fn low_b(word: u32) -> u32
 }
 
 /// The immediate of form B, an even number of 13 bits with a sign.
+#[inline(always)]
 pub fn imm_b(word: u32) -> i32
     ensures { result ≡ immediate_b word }
 {
@@ -60,6 +68,7 @@ pub fn imm_b(word: u32) -> i32
 }
 
 /// The immediate of form U, a multiple of 4,096.
+#[inline(always)]
 pub fn imm_u(word: u32) -> i32
     ensures { result ≡ immediate_u word }
 {
@@ -67,6 +76,7 @@ pub fn imm_u(word: u32) -> i32
 }
 
 // all of a jump's immediate but its sign
+#[inline(always)]
 fn low_j(word: u32) -> u32
     ensures value { result ≡ word / 2 ^ 12 % 2 ^ 8 * 2 ^ 12 + word / 2 ^ 20 % 2 * 2 ^ 11 + word / 2 ^ 21 % 2 ^ 10 * 2 }
     ensures below { result < 2 ^ 20 }
@@ -75,6 +85,7 @@ fn low_j(word: u32) -> u32
 }
 
 /// The immediate of form J, an even number of 21 bits with a sign.
+#[inline(always)]
 pub fn imm_j(word: u32) -> i32
     ensures { result ≡ immediate_j word }
 {

@@ -1,6 +1,6 @@
 //! The instructions of each opcode, read. (Unprivileged manual, chapter 24.)
-ghost use Rattle.std.specs.Prelude.{◌≡◌, ℕ, ◌%◌, ◌^◌, ◌++◌};
-ghost use Rattle.rv_decode.specs.Fields.{opcode_of};
+ghost use Rattle.std.specs.Prelude.{◌≡◌, ◌⊎◌, ℕ, ◌%◌, ◌^◌, ◌++◌};
+ghost use Rattle.rv_decode.specs.Fields.{opcode_of, funct3_of};
 ghost use Rattle.rv_decode.specs.Listing.{read_by, jalrs, branches, loads, stores, immediates, registers, fences, atomics, csrs, bares};
 ghost use Rattle.rv_decode.specs.Listing.{branch as branch_row, load as load_row, store as store_row, immediate as immediate_row, shift as shift_row, register as register_row, fence as fence_row, atomic as atomic_row, csr as csr_row};
 
@@ -9,6 +9,7 @@ use crate::instruction::Instr;
 use crate::operations::{AtomicOp, BranchOp, CsrOp, FenceOp, ImmOp, LoadOp, RegOp, StoreOp};
 
 /// What a word of the opcode 67 reads: JALR.
+#[inline(always)]
 pub fn jalr(word: u32) -> Option<Instr>
     requires { opcode_of word ≡ 0x67 }
     ensures { result ≡ read_by jalrs word }
@@ -23,6 +24,7 @@ pub fn jalr(word: u32) -> Option<Instr>
     }
 }
 
+#[inline(always)]
 fn branch_of(op: BranchOp, word: u32) -> Instr
     ensures { result ≡ branch_row op word }
 {
@@ -35,21 +37,24 @@ fn branch_of(op: BranchOp, word: u32) -> Instr
 }
 
 /// What a word of the opcode 63 reads: the branches.
+#[inline(always)]
 pub fn branch(word: u32) -> Option<Instr>
     requires { opcode_of word ≡ 0x63 }
     ensures { result ≡ read_by branches word }
 {
-    match funct3(word) {
-        0 => Some(branch_of(BranchOp::Beq, word)),
-        1 => Some(branch_of(BranchOp::Bne, word)),
-        4 => Some(branch_of(BranchOp::Blt, word)),
-        5 => Some(branch_of(BranchOp::Bge, word)),
-        6 => Some(branch_of(BranchOp::Bltu, word)),
-        7 => Some(branch_of(BranchOp::Bgeu, word)),
-        _ => None,
-    }
+    let op = match funct3(word) {
+        0 => BranchOp::Beq,
+        1 => BranchOp::Bne,
+        4 => BranchOp::Blt,
+        5 => BranchOp::Bge,
+        6 => BranchOp::Bltu,
+        7 => BranchOp::Bgeu,
+        _ => return None,
+    };
+    Some(branch_of(op, word))
 }
 
+#[inline(always)]
 fn load_of(op: LoadOp, word: u32) -> Instr
     ensures { result ≡ load_row op word }
 {
@@ -62,20 +67,23 @@ fn load_of(op: LoadOp, word: u32) -> Instr
 }
 
 /// What a word of the opcode 03 reads: the loads.
+#[inline(always)]
 pub fn load(word: u32) -> Option<Instr>
     requires { opcode_of word ≡ 0x03 }
     ensures { result ≡ read_by loads word }
 {
-    match funct3(word) {
-        0 => Some(load_of(LoadOp::Lb, word)),
-        1 => Some(load_of(LoadOp::Lh, word)),
-        2 => Some(load_of(LoadOp::Lw, word)),
-        4 => Some(load_of(LoadOp::Lbu, word)),
-        5 => Some(load_of(LoadOp::Lhu, word)),
-        _ => None,
-    }
+    let op = match funct3(word) {
+        0 => LoadOp::Lb,
+        1 => LoadOp::Lh,
+        2 => LoadOp::Lw,
+        4 => LoadOp::Lbu,
+        5 => LoadOp::Lhu,
+        _ => return None,
+    };
+    Some(load_of(op, word))
 }
 
+#[inline(always)]
 fn store_of(op: StoreOp, word: u32) -> Instr
     ensures { result ≡ store_row op word }
 {
@@ -88,18 +96,21 @@ fn store_of(op: StoreOp, word: u32) -> Instr
 }
 
 /// What a word of the opcode 23 reads: the stores.
+#[inline(always)]
 pub fn store(word: u32) -> Option<Instr>
     requires { opcode_of word ≡ 0x23 }
     ensures { result ≡ read_by stores word }
 {
-    match funct3(word) {
-        0 => Some(store_of(StoreOp::Sb, word)),
-        1 => Some(store_of(StoreOp::Sh, word)),
-        2 => Some(store_of(StoreOp::Sw, word)),
-        _ => None,
-    }
+    let op = match funct3(word) {
+        0 => StoreOp::Sb,
+        1 => StoreOp::Sh,
+        2 => StoreOp::Sw,
+        _ => return None,
+    };
+    Some(store_of(op, word))
 }
 
+#[inline(always)]
 fn immediate_of(op: ImmOp, word: u32) -> Instr
     ensures { result ≡ immediate_row op word }
 {
@@ -111,6 +122,7 @@ fn immediate_of(op: ImmOp, word: u32) -> Instr
     }
 }
 
+#[inline(always)]
 fn shift_of(op: ImmOp, word: u32) -> Instr
     ensures { result ≡ shift_row op word }
 {
@@ -122,25 +134,41 @@ fn shift_of(op: ImmOp, word: u32) -> Instr
     }
 }
 
+// What a shift by an immediate reads.
+#[inline(always)]
+fn shift(word: u32) -> Option<Instr>
+    requires opcode { opcode_of word ≡ 0x13 }
+    requires shifts { (funct3_of word ≡ 1) ⊎ (funct3_of word ≡ 5) }
+    ensures { result ≡ read_by immediates word }
+{
+    let op = match (funct3(word), word >> 25) {
+        (1, 0x00) => ImmOp::Slli,
+        (5, 0x00) => ImmOp::Srli,
+        (5, 0x20) => ImmOp::Srai,
+        _ => return None,
+    };
+    Some(shift_of(op, word))
+}
+
 /// What a word of the opcode 13 reads: the operations on an immediate.
+#[inline(always)]
 pub fn immediate(word: u32) -> Option<Instr>
     requires { opcode_of word ≡ 0x13 }
     ensures { result ≡ read_by immediates word }
 {
-    match (funct3(word), word >> 25) {
-        (0, _) => Some(immediate_of(ImmOp::Addi, word)),
-        (2, _) => Some(immediate_of(ImmOp::Slti, word)),
-        (3, _) => Some(immediate_of(ImmOp::Sltiu, word)),
-        (4, _) => Some(immediate_of(ImmOp::Xori, word)),
-        (6, _) => Some(immediate_of(ImmOp::Ori, word)),
-        (7, _) => Some(immediate_of(ImmOp::Andi, word)),
-        (1, 0x00) => Some(shift_of(ImmOp::Slli, word)),
-        (5, 0x00) => Some(shift_of(ImmOp::Srli, word)),
-        (5, 0x20) => Some(shift_of(ImmOp::Srai, word)),
-        _ => None,
-    }
+    let op = match funct3(word) {
+        0 => ImmOp::Addi,
+        2 => ImmOp::Slti,
+        3 => ImmOp::Sltiu,
+        4 => ImmOp::Xori,
+        6 => ImmOp::Ori,
+        7 => ImmOp::Andi,
+        _ => return shift(word),
+    };
+    Some(immediate_of(op, word))
 }
 
+#[inline(always)]
 fn register_of(op: RegOp, word: u32) -> Instr
     ensures { result ≡ register_row op word }
 {
@@ -153,33 +181,36 @@ fn register_of(op: RegOp, word: u32) -> Instr
 }
 
 /// What a word of the opcode 33 reads: the operations on registers.
+#[inline(always)]
 pub fn register(word: u32) -> Option<Instr>
     requires { opcode_of word ≡ 0x33 }
     ensures { result ≡ read_by registers word }
 {
-    match (word >> 25, funct3(word)) {
-        (0x00, 0) => Some(register_of(RegOp::Add, word)),
-        (0x00, 1) => Some(register_of(RegOp::Sll, word)),
-        (0x00, 2) => Some(register_of(RegOp::Slt, word)),
-        (0x00, 3) => Some(register_of(RegOp::Sltu, word)),
-        (0x00, 4) => Some(register_of(RegOp::Xor, word)),
-        (0x00, 5) => Some(register_of(RegOp::Srl, word)),
-        (0x00, 6) => Some(register_of(RegOp::Or, word)),
-        (0x00, 7) => Some(register_of(RegOp::And, word)),
-        (0x20, 0) => Some(register_of(RegOp::Sub, word)),
-        (0x20, 5) => Some(register_of(RegOp::Sra, word)),
-        (0x01, 0) => Some(register_of(RegOp::Mul, word)),
-        (0x01, 1) => Some(register_of(RegOp::Mulh, word)),
-        (0x01, 2) => Some(register_of(RegOp::Mulhsu, word)),
-        (0x01, 3) => Some(register_of(RegOp::Mulhu, word)),
-        (0x01, 4) => Some(register_of(RegOp::Div, word)),
-        (0x01, 5) => Some(register_of(RegOp::Divu, word)),
-        (0x01, 6) => Some(register_of(RegOp::Rem, word)),
-        (0x01, 7) => Some(register_of(RegOp::Remu, word)),
-        _ => None,
-    }
+    let op = match (word >> 25, funct3(word)) {
+        (0x00, 0) => RegOp::Add,
+        (0x00, 1) => RegOp::Sll,
+        (0x00, 2) => RegOp::Slt,
+        (0x00, 3) => RegOp::Sltu,
+        (0x00, 4) => RegOp::Xor,
+        (0x00, 5) => RegOp::Srl,
+        (0x00, 6) => RegOp::Or,
+        (0x00, 7) => RegOp::And,
+        (0x20, 0) => RegOp::Sub,
+        (0x20, 5) => RegOp::Sra,
+        (0x01, 0) => RegOp::Mul,
+        (0x01, 1) => RegOp::Mulh,
+        (0x01, 2) => RegOp::Mulhsu,
+        (0x01, 3) => RegOp::Mulhu,
+        (0x01, 4) => RegOp::Div,
+        (0x01, 5) => RegOp::Divu,
+        (0x01, 6) => RegOp::Rem,
+        (0x01, 7) => RegOp::Remu,
+        _ => return None,
+    };
+    Some(register_of(op, word))
 }
 
+#[inline(always)]
 fn fence_of(op: FenceOp, word: u32) -> Instr
     ensures { result ≡ fence_row op word }
 {
@@ -192,6 +223,7 @@ fn fence_of(op: FenceOp, word: u32) -> Instr
 }
 
 /// What a word of the opcode 0f reads: FENCE and FENCE.I.
+#[inline(always)]
 pub fn fence(word: u32) -> Option<Instr>
     requires { opcode_of word ≡ 0x0f }
     ensures { result ≡ read_by fences word }
@@ -203,6 +235,7 @@ pub fn fence(word: u32) -> Option<Instr>
     }
 }
 
+#[inline(always)]
 fn atomic_of(op: AtomicOp, word: u32) -> Instr
     ensures { result ≡ atomic_row op word }
 {
@@ -216,6 +249,7 @@ fn atomic_of(op: AtomicOp, word: u32) -> Instr
 }
 
 /// What a word of the opcode 2f reads: the atomics.
+#[inline(always)]
 pub fn atomic(word: u32) -> Option<Instr>
     requires { opcode_of word ≡ 0x2f }
     ensures { result ≡ read_by atomics word }
@@ -223,22 +257,24 @@ pub fn atomic(word: u32) -> Option<Instr>
     if funct3(word) != 2 {
         return None;
     }
-    match (word >> 27, rs2(word)) {
-        (0x00, _) => Some(atomic_of(AtomicOp::Add, word)),
-        (0x01, _) => Some(atomic_of(AtomicOp::Swap, word)),
-        (0x02, 0) => Some(atomic_of(AtomicOp::Lr, word)),
-        (0x03, _) => Some(atomic_of(AtomicOp::Sc, word)),
-        (0x04, _) => Some(atomic_of(AtomicOp::Xor, word)),
-        (0x08, _) => Some(atomic_of(AtomicOp::Or, word)),
-        (0x0c, _) => Some(atomic_of(AtomicOp::And, word)),
-        (0x10, _) => Some(atomic_of(AtomicOp::Min, word)),
-        (0x14, _) => Some(atomic_of(AtomicOp::Max, word)),
-        (0x18, _) => Some(atomic_of(AtomicOp::Minu, word)),
-        (0x1c, _) => Some(atomic_of(AtomicOp::Maxu, word)),
-        _ => None,
-    }
+    let op = match (word >> 27, rs2(word)) {
+        (0x00, _) => AtomicOp::Add,
+        (0x01, _) => AtomicOp::Swap,
+        (0x02, 0) => AtomicOp::Lr,
+        (0x03, _) => AtomicOp::Sc,
+        (0x04, _) => AtomicOp::Xor,
+        (0x08, _) => AtomicOp::Or,
+        (0x0c, _) => AtomicOp::And,
+        (0x10, _) => AtomicOp::Min,
+        (0x14, _) => AtomicOp::Max,
+        (0x18, _) => AtomicOp::Minu,
+        (0x1c, _) => AtomicOp::Maxu,
+        _ => return None,
+    };
+    Some(atomic_of(op, word))
 }
 
+#[inline(always)]
 fn csr_of(op: CsrOp, word: u32) -> Instr
     ensures { result ≡ csr_row op word }
 {
@@ -250,6 +286,7 @@ fn csr_of(op: CsrOp, word: u32) -> Instr
     }
 }
 
+#[inline(always)]
 fn bare(word: u32) -> Option<Instr>
     requires { opcode_of word ≡ 0x73 }
     ensures { result ≡ read_by bares word }
@@ -264,17 +301,19 @@ fn bare(word: u32) -> Option<Instr>
 }
 
 /// What a word of the opcode 73 reads: the CSR instructions, ECALL, EBREAK, MRET and WFI.
+#[inline(always)]
 pub fn system(word: u32) -> Option<Instr>
     requires { opcode_of word ≡ 0x73 }
     ensures { result ≡ read_by (csrs ++ bares) word }
 {
-    match funct3(word) {
-        1 => Some(csr_of(CsrOp::Csrrw, word)),
-        2 => Some(csr_of(CsrOp::Csrrs, word)),
-        3 => Some(csr_of(CsrOp::Csrrc, word)),
-        5 => Some(csr_of(CsrOp::Csrrwi, word)),
-        6 => Some(csr_of(CsrOp::Csrrsi, word)),
-        7 => Some(csr_of(CsrOp::Csrrci, word)),
-        _ => bare(word),
-    }
+    let op = match funct3(word) {
+        1 => CsrOp::Csrrw,
+        2 => CsrOp::Csrrs,
+        3 => CsrOp::Csrrc,
+        5 => CsrOp::Csrrwi,
+        6 => CsrOp::Csrrsi,
+        7 => CsrOp::Csrrci,
+        _ => return bare(word),
+    };
+    Some(csr_of(op, word))
 }

@@ -1,5 +1,6 @@
 //! RAM, byte by byte.
-ghost use Rattle.std.specs.Prelude.{◌≡◌, ◌⊎◌, ℕ, ◌*◌, ◌^◌, ◌<◌, ◌≤◌, List, length, replicate, IfOk};
+ghost use Rattle.std.specs.Prelude.{◌≡◌, ◌⊎◌, ℕ, ◌+◌, ◌*◌, ◌^◌, ◌<◌, ◌≤◌, List, length, take, drop, replicate, IfOk};
+ghost use Rattle.std.specs.Int.{w16, w32, from_le_bytes};
 ghost use Rattle.memory_map.specs.Ram.{InRam, IsWidth, in_ram};
 ghost use Rattle.rv_memory.specs.Ram.{loaded, stored, filled};
 
@@ -21,6 +22,28 @@ impl Model for Ram {
     ghost invariant = { λ r. length r.bytes.items ≤ 16777216 };
 }
 
+// The two bytes from a place on, little-endian.
+#[inline(always)]
+fn halfword_at(bytes: &[u8], at: usize) -> u16
+    requires { at + 2 ≤ length bytes.now }
+    ensures { result ≡ from_le_bytes w16 (take 2 (drop at bytes.now)) }
+{
+    let mut halfword = [0; 2];
+    halfword.copy_from_slice(&bytes[at..at + 2]);
+    u16::from_le_bytes(halfword)
+}
+
+// The four bytes from a place on, little-endian.
+#[inline(always)]
+fn word_at(bytes: &[u8], at: usize) -> u32
+    requires { at + 4 ≤ length bytes.now }
+    ensures { result ≡ from_le_bytes w32 (take 4 (drop at bytes.now)) }
+{
+    let mut word = [0; 4];
+    word.copy_from_slice(&bytes[at..at + 4]);
+    u32::from_le_bytes(word)
+}
+
 impl Ram {
     /// A RAM of this many KiB, with all bytes 0. It is the only call that takes memory.
     pub fn new(alloc: Global, kib: u32) -> Result<Ram, NoMemory>
@@ -34,14 +57,16 @@ impl Ram {
     }
 
     /// Whether `[address, address + width)` stands in RAM, as whole numbers.
+    #[inline(always)]
     pub fn holds(&self, address: u32, width: u32) -> bool
         ensures { result ≡ in_ram (length self.now) address width }
     {
-        let bytes = self.bytes.as_slice();
-        RAM_START <= address && (address - RAM_START) as usize + width as usize <= bytes.len()
+        // no RAM is so long that an address before it, less RAM_START, falls into it
+        address.wrapping_sub(RAM_START) as usize + width as usize <= self.bytes.len()
     }
 
     /// The value of the bytes at an address, little-endian and extended by zero. (Unprivileged manual, 1.4 and 2.6.)
+    #[inline(always)]
     pub fn load(&self, address: u32, width: u32) -> u32
         requires width { IsWidth width }
         requires held { InRam (length self.now) address width }
@@ -51,12 +76,13 @@ impl Ram {
         let at = (address - RAM_START) as usize;
         match width {
             1 => u32::from(bytes[at]),
-            2 => u32::from(u16::from_le_bytes([bytes[at], bytes[at + 1]])),
-            _ => u32::from_le_bytes([bytes[at], bytes[at + 1], bytes[at + 2], bytes[at + 3]]),
+            2 => u32::from(halfword_at(bytes, at)),
+            _ => word_at(bytes, at),
         }
     }
 
     /// Stores the low bytes of a value at an address, little-endian; all other bytes stay. (Unprivileged manual, 1.4 and 2.6.)
+    #[inline(always)]
     pub fn store(&mut self, address: u32, width: u32, value: u32)
         requires width { IsWidth width }
         requires held { InRam (length self.old) address width }

@@ -1,0 +1,3 @@
+pub mod CpuLaws
+pub mod MidwayLaws
+pub mod PlainLaws

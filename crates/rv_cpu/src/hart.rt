@@ -1,0 +1,48 @@
+//! The hart as one of the harts that runs and replays are made of.
+ghost use Rattle.std.specs.Prelude.{length};
+
+use crate::cpu::Cpu;
+use any_machine::Hart;
+use run_events::{Event, Need, Supplied};
+
+#[tactic(auto, unfolding(hart_model::specs::Machine::hart))]
+impl Hart for Cpu {
+    ghost use Rattle.hart_model.proofs.CountLaws.{hart_counts};
+    ghost use Rattle.hart_model.specs.Machine.{hart};
+    ghost use Rattle.rv_cpu.specs.Sized.{hart_sized};
+
+    ghost machine = { hart };
+
+    ghost done = { λ c. c.step };
+
+    ghost ram_size = { λ c. length c.ram };
+
+    ghost counts = { hart_counts };
+
+    ghost sized = { hart_sized };
+
+    fn steps(&self) -> u32 {
+        Cpu::steps(self)
+    }
+
+    fn next_need(&self, lines: u8) -> Need {
+        Cpu::next_need(self, lines)
+    }
+
+    fn holds(&self, address: u32) -> bool {
+        Cpu::holds(self, address)
+    }
+
+    fn step(&mut self, lines: u8, supplied: Option<Supplied>) -> Event {
+        Cpu::step(self, lines, supplied)
+    }
+
+    #[inline(always)]
+    fn try_step(&mut self, lines: u8, event: &mut Event) -> bool {
+        Cpu::try_step(self, lines, event)
+    }
+
+    fn dma(&mut self, address: u32, word: u32, mark: u8) -> Event {
+        Cpu::dma(self, address, word, mark)
+    }
+}

@@ -1,0 +1,188 @@
+//! One step.
+ghost use Rattle.std.specs.Prelude.{◌≡◌, ℕ, ◌+◌, ◌<◌, true, false, None, Some, IsTrue};
+ghost use Rattle.rv_decode.specs.Valid.{IsValid};
+ghost use Rattle.hart_model.specs.Machine.{holds_word};
+ghost use Rattle.hart_model.specs.Step.{cpu, outcome, step_by, trapped, interrupted, touch};
+ghost use Rattle.rv_cpu.specs.Midway.{Goes, ended};
+ghost use Rattle.rv_cpu.specs.Plain.{is_plain, is_plain_decoded};
+
+use crate::atomics::is_reserved;
+use crate::done::Done;
+use crate::engine::Engine;
+use run_events::{Access, Event, Supplied, Told};
+use rv_decode::{Instr, decode};
+
+/// The bytes of an instruction.
+pub const SIZE: u32 = 4;
+
+impl Engine {
+    // Ends a step whose instruction was executed: its event, the next pc, and the counters.
+    #[inline(always)]
+    fn end(&mut self, word: u32, told: Told, value: u32, next: u32, access: Access) -> Event
+        requires { self.old.step < 1000000000 }
+        ensures { ended told word (Goes value next access) self.old ≡ Some (result, self.new) }
+    {
+        let event = Event::Exec {
+            step: self.steps,
+            pc: self.pc,
+            word,
+            next,
+            result: value,
+            access,
+            told,
+        };
+        self.pc = next;
+        self.csrs.count(true);
+        self.steps += 1;
+        event
+    }
+
+    // Does the step of a plain instruction; of another one, nothing.
+    #[inline(always)]
+    fn run_plainly(
+        &mut self,
+        lines: u8,
+        word: u32,
+        size: u32,
+        instr: Instr,
+        event: &mut Event,
+    ) -> bool
+        requires valid { IsValid instr }
+        requires room { self.old.step < 1000000000 }
+        ensures plain { result ≡ is_plain_decoded self.old lines word size (Some instr) }
+        ensures step { IsTrue result → step_by self.old word (outcome self.old lines None word size instr) ≡ (event.new, self.new) }
+        ensures same { result ≡ false → self.new ≡ self.old }
+    {
+        let told = self.told();
+        match self.execute_plainly(lines, word, size, instr) {
+            Done::Quiet { result, next } => {
+                *event = self.end(word, told, result, next, Access::Quiet);
+                true
+            }
+            Done::Accessed { result, access } => {
+                let next = self.next(size);
+                *event = self.end(word, told, result, next, access);
+                true
+            }
+            _ => false,
+        }
+    }
+
+    /// Does the next step where it is a plain one, and leaves what it shows in `event`; else it does nothing.
+    #[tactic(auto, unfolding(hart_model::specs::Step::cpu, crate::specs::Plain::is_plain))]
+    #[inline(always)]
+    pub fn try_step(&mut self, lines: u8, event: &mut Event) -> bool
+        requires { self.old.step < 1000000000 }
+        ensures plain { result ≡ is_plain self.old lines }
+        ensures step { IsTrue result → cpu self.old lines None ≡ (event.new, self.new) }
+        ensures same { result ≡ false → self.new ≡ self.old }
+    {
+        if self.csrs.pending(lines).is_some() || !self.ram.holds(self.pc, SIZE) {
+            return false;
+        }
+        let word = self.ram.load(self.pc, SIZE);
+        match decode(word) {
+            Some(instr) => self.run_plainly(lines, word, SIZE, instr, event),
+            None => false,
+        }
+    }
+
+    // Takes an exception at the instruction of this word. (Privileged manual, 3.1.7.)
+    fn trap(&mut self, word: u32, cause: u32, value: u32) -> Event
+        requires { self.old.step < 1000000000 }
+        ensures { trapped self.old word cause value ≡ (result, self.new) }
+    {
+        let (step, pc) = (self.steps, self.pc);
+        let next = self.csrs.enter(cause, pc, value);
+        self.csrs.count(false);
+        self.pc = next;
+        self.steps += 1;
+        Event::Trap {
+            step,
+            pc,
+            word,
+            cause,
+            value,
+            next,
+        }
+    }
+
+    // Takes an interrupt in place of the next instruction. (Privileged manual, 3.1.9.)
+    fn interrupt(&mut self, cause: u32) -> Event
+        requires { self.old.step < 1000000000 }
+        ensures { interrupted self.old cause ≡ (result, self.new) }
+    {
+        let (step, pc) = (self.steps, self.pc);
+        let next = self.csrs.enter(cause, pc, 0);
+        self.csrs.count(false);
+        self.pc = next;
+        self.steps += 1;
+        Event::Irq {
+            step,
+            pc,
+            cause,
+            next,
+        }
+    }
+
+    // Does the step of an instruction.
+    fn run(
+        &mut self,
+        lines: u8,
+        supplied: Option<Supplied>,
+        word: u32,
+        size: u32,
+        instr: Instr,
+    ) -> Event
+        requires valid { IsValid instr }
+        requires room { self.old.step < 1000000000 }
+        ensures { step_by self.old word (outcome self.old lines supplied word size instr) ≡ (result, self.new) }
+    {
+        let told = self.told();
+        match self.execute(lines, supplied, word, size, instr) {
+            Done::Quiet { result, next } => self.end(word, told, result, next, Access::Quiet),
+            Done::Accessed { result, access } => {
+                let next = self.next(size);
+                self.end(word, told, result, next, access)
+            }
+            Done::Raised { cause, value } => self.trap(word, cause, value),
+            Done::Other => unreachable!(),
+        }
+    }
+
+    /// Does the next step, with these interrupt lines and what a device register supplied, and answers what it shows.
+    #[tactic(auto, unfolding(hart_model::specs::Step::cpu, hart_model::specs::Step::step_by))]
+    pub fn step(&mut self, lines: u8, supplied: Option<Supplied>) -> Event
+        requires { self.old.step < 1000000000 }
+        ensures { cpu self.old lines supplied ≡ (result, self.new) }
+    {
+        if let Some(cause) = self.csrs.pending(lines) {
+            return self.interrupt(cause);
+        }
+        if !self.ram.holds(self.pc, SIZE) {
+            return self.trap(0, 1, self.pc);
+        }
+        let word = self.ram.load(self.pc, SIZE);
+        match decode(word) {
+            Some(instr) => self.run(lines, supplied, word, SIZE, instr),
+            None => self.trap(word, 2, word),
+        }
+    }
+
+    /// The disk writes a word into RAM before the next step, and ends a reservation of it.
+    pub fn dma(&mut self, address: u32, word: u32, mark: u8) -> Event
+        requires { IsTrue (holds_word self.old address) }
+        ensures { touch self.old (record { address = address; word = word; mark = mark }) ≡ (result, self.new) }
+    {
+        self.ram.store(address, 4, word);
+        if is_reserved(self.reserved, address) {
+            self.reserved = None;
+        }
+        Event::Dma {
+            step: self.steps,
+            address,
+            word,
+            mark,
+        }
+    }
+}

@@ -1,0 +1,4 @@
+pub mod CounterLaws
+mod Examples
+pub mod TableLaws
+pub mod TrapLaws

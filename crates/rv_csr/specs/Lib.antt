@@ -1,0 +1,3 @@
+pub mod Csrs
+pub mod Table
+pub mod Traps

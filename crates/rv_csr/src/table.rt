@@ -1,0 +1,135 @@
+//! Reads and writes by address.
+ghost use Rattle.std.specs.Prelude.{◌≡◌, ◌<◌, true, is_some, unwrap_or};
+ghost use Rattle.rv_csr.specs.Table as model;
+
+use crate::addresses::{
+    MCAUSE, MCONFIGPTR, MCOUNTINHIBIT, MCYCLE, MCYCLEH, MEPC, MHPMCOUNTER3, MHPMCOUNTER3H,
+    MHPMCOUNTER31, MHPMCOUNTER31H, MHPMEVENT3, MHPMEVENT31, MIE, MINSTRET, MINSTRETH, MIP, MISA,
+    MSCRATCH, MSTATUS, MSTATUSH, MTVAL, MTVEC, MVENDORID, PMPADDR0, PMPADDR63, PMPCFG0, PMPCFG15,
+};
+use crate::counters::{high, low, with_high, with_low};
+use crate::csrs::Csrs;
+use memory_map::GRAIN;
+
+// A bit of a word.
+fn has_bit(bit: u32, word: u32) -> bool
+    requires { bit < 32 }
+    ensures { result ≡ model.has_bit bit word }
+{
+    (word >> bit) % 2 == 1
+}
+
+// A word with this bit alone where the flag is set, else 0.
+fn bit_if(bit: u32, flag: bool) -> u32
+    requires { bit < 32 }
+    ensures { result ≡ model.bit_if bit flag }
+{
+    if flag { 1 << bit } else { 0 }
+}
+
+// Whether bits 11:10 of an address are 11.
+fn is_read_only(address: u32) -> bool
+    ensures { result ≡ model.is_read_only address }
+{
+    address / 0x400 % 4 == 3
+}
+
+impl Csrs {
+    fn set_mstatus(&mut self, value: u32)
+        ensures { self.new ≡ record self.old { interrupts = model.has_bit 3 value; interrupts_before = model.has_bit 7 value } }
+    {
+        self.interrupts = has_bit(3, value);
+        self.interrupts_before = has_bit(7, value);
+    }
+
+    fn set_mie(&mut self, value: u32)
+        ensures { self.new ≡ record self.old { timer_enabled = model.has_bit 7 value; external_enabled = model.has_bit 11 value } }
+    {
+        self.timer_enabled = has_bit(7, value);
+        self.external_enabled = has_bit(11, value);
+    }
+
+    fn set_mcycle(&mut self, counter: u64)
+        ensures { self.new ≡ record self.old { mcycle = counter; mcycle_written = true } }
+    {
+        self.mcycle = counter;
+        self.mcycle_written = true;
+    }
+
+    fn set_minstret(&mut self, counter: u64)
+        ensures { self.new ≡ record self.old { minstret = counter; minstret_written = true } }
+    {
+        self.minstret = counter;
+        self.minstret_written = true;
+    }
+
+    /// What the register of this address reads, with bit 0 of `lines` for the timer's line and bit 1 for the external
+    /// one. `None` exactly where there is no such register. (Privileged manual, 2.2.)
+    #[tactic(auto, unfolding(crate::specs::Table::read, crate::specs::Table::rows))]
+    pub fn read(&self, address: u32, lines: u8) -> Option<u32>
+        ensures { result ≡ model.read self.now address lines }
+    {
+        let value = match address {
+            MSTATUS => 0x1800 + bit_if(7, self.interrupts_before) + bit_if(3, self.interrupts),
+            MISA => 0x4000_1101,
+            MIE => bit_if(11, self.external_enabled) + bit_if(7, self.timer_enabled),
+            MTVEC => self.mtvec,
+            MSCRATCH => self.mscratch,
+            MEPC => self.mepc,
+            MCAUSE => self.mcause,
+            MTVAL => self.mtval,
+            MIP => bit_if(11, lines / 2 % 2 == 1) + bit_if(7, lines % 2 == 1),
+            MCYCLE => low(self.mcycle),
+            MINSTRET => low(self.minstret),
+            MCYCLEH => high(self.mcycle),
+            MINSTRETH => high(self.minstret),
+            MSTATUSH
+            | MCOUNTINHIBIT
+            | MHPMEVENT3..=MHPMEVENT31
+            | PMPCFG0..=PMPCFG15
+            | PMPADDR0..=PMPADDR63
+            | MHPMCOUNTER3..=MHPMCOUNTER31
+            | MHPMCOUNTER3H..=MHPMCOUNTER31H
+            | MVENDORID..=MCONFIGPTR => 0,
+            _ => return None,
+        };
+        Some(value)
+    }
+
+    /// Writes to the register of this address, which keeps of the value what its row in the manual says. `None` exactly
+    /// where there is no such register or bits 11:10 of the address are 11, so that it is only read; then nothing has
+    /// changed. (Privileged manual, 2.1 and 2.2.)
+    #[tactic(auto, unfolding(crate::specs::Table::written, crate::specs::Table::rows))]
+    pub fn write(&mut self, address: u32, value: u32) -> Option<()>
+        ensures done { is_some result ≡ is_some (model.written self.old address value) }
+        ensures after { self.new ≡ unwrap_or (model.written self.old address value) self.old }
+    {
+        if is_read_only(address) {
+            return None;
+        }
+        match address {
+            MSTATUS => self.set_mstatus(value),
+            MIE => self.set_mie(value),
+            MTVEC => self.mtvec = value - value / 2 % 2 * 2,
+            MSCRATCH => self.mscratch = value,
+            MEPC => self.mepc = value - value % GRAIN,
+            MCAUSE => self.mcause = value,
+            MTVAL => self.mtval = value,
+            MCYCLE => self.set_mcycle(with_low(self.mcycle, value)),
+            MINSTRET => self.set_minstret(with_low(self.minstret, value)),
+            MCYCLEH => self.set_mcycle(with_high(self.mcycle, value)),
+            MINSTRETH => self.set_minstret(with_high(self.minstret, value)),
+            MISA
+            | MIP
+            | MSTATUSH
+            | MCOUNTINHIBIT
+            | MHPMEVENT3..=MHPMEVENT31
+            | PMPCFG0..=PMPCFG15
+            | PMPADDR0..=PMPADDR63
+            | MHPMCOUNTER3..=MHPMCOUNTER31
+            | MHPMCOUNTER3H..=MHPMCOUNTER31H => {}
+            _ => return None,
+        }
+        Some(())
+    }
+}
