@@ -49,7 +49,7 @@ jumping s size rd target = if target % grain == 0 then Does (record (writing s s
 abbrev pub low_bytes : (width word : ℕ) → ℕ
 low_bytes width word = word % 2 ^ (8 * width)
 
--- an access is looked at in this order: it is misaligned, it is in RAM, it is elsewhere. (Privileged manual, 3.7.1.)
+-- an access is looked at in this order: it is misaligned, it is in RAM, it is elsewhere. (Privileged manual, 3.1.15, table 3.7.)
 abbrev pub accessing : State → (address width misaligned : ℕ) → (in_memory elsewhere : Outcome) → Outcome
 accessing s address width misaligned in_memory elsewhere =
     if address % width == 0 then (if in_ram (length s.ram) address width then in_memory else elsewhere) else Raises misaligned address

@@ -95,7 +95,7 @@ unless_interrupted s lines supplied None = after_fetch s lines supplied (fetched
 
 -- The next step, with the interrupt lines and what a device register supplied: what it shows, and the state after it. In
 -- order it is an interrupt, or the fetch's exception, or that of a word that is no instruction, or the instruction's
--- own, or the access's, or the instruction is executed. (Privileged manual, 3.1.9 and 3.7.1.)
+-- own, or the access's, or the instruction is executed. (Privileged manual, 3.1.9, and 3.1.15, table 3.7.)
 unfoldable pub cpu : State → (lines : ℕ) → Option Supplied → Event × State
 cpu s lines supplied = unless_interrupted s lines supplied (pending s.csrs lines)
 

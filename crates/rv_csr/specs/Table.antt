@@ -70,7 +70,7 @@ timer_line lines = has_bit 0 lines
 abbrev pub external_line : ℕ → Bool
 external_line lines = has_bit 1 lines
 
--- mip: the lines, where mie has them
+-- mip: the lines, at the places of mie's bits
 abbrev pub mip : ℕ → ℕ
 mip lines = bit_if 11 (external_line lines) + bit_if 7 (timer_line lines)
 
