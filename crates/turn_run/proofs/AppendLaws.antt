@@ -25,7 +25,7 @@ use Rattle.turn_run.specs.Course.{Course, IsCourse, log_of, plan_of}
 use Rattle.turn_run.specs.Endings.{end_at, end_back, end_in}
 use Rattle.turn_run.specs.Gates.{Gates, with_byte, with_item}
 use Rattle.turn_run.specs.Replicas.{Follows}
-use Rattle.turn_run.specs.Runs.{HasAppended, HasClosed, HasWaited, IsAt, unread}
+use Rattle.turn_run.specs.Runs.{HasAppended, HasClosed, HasWaited, IsAt, next_has_byte, unread}
 use Rattle.turn_run.specs.Sources.{StillToCome}
 use Rattle.turn_run.proofs.CourseLaws.{IsNext, is_plan, length_log, next_item, no_item_left}
 use Rattle.turn_run.proofs.IssueLaws.{after_item, rises_next}
@@ -137,7 +137,9 @@ module _ {M F : Type 0} (r : Recording M) (f : Following F) (c : Course) (core :
         → HasWaited r f c core parts (record { source = source; hub = parts.hub; followers = parts.followers; required = parts.required; gate = parts.gate; end = parts.end })
     waits_for_gate source opened left crowded = record {
       «open» = open_before opened;
-      crowded = inr (eqb-true (length parts.gate.steps) 4096 (and_parts (is_some item.byte) (is_full parts.gate) crowded).1);
+      crowded = (
+          let both = and_parts (is_some item.byte) (is_full parts.gate) crowded in
+          inr (eqb-true (length parts.gate.steps) 4096 both.1, ap next_has_byte first ∙ both.0));
       at = same_run source parts.hub refl left;
       hub = refl;
       gate = refl;

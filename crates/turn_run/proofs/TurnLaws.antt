@@ -135,6 +135,8 @@ module _ {M F : Type 0} (r : Recording M) (f : Following F) (c : Course) (core :
           let here : gate ≡ withheld_from (refusals parts.hub c.required) (with_release parts.gate (count_below below parts.gate.steps)) = made ∙ ap (λ l. withheld_from (refusals parts.hub l) freed) at.required in
           record {
             count = core.released + count_below below parts.gate.steps;
+            exact = ap (λ n. core.released + count_below n parts.gate.steps) least;
+            gate = here ∙ ap (λ n. withheld_from (refusals parts.hub c.required) (with_release parts.gate (count_below n parts.gate.steps))) least;
             more = omega arith;
             at = record {
               follows = follows_on f c core parts.hub parts.followers.items at.follows core.failed (core.released + count_below below parts.gate.steps) sound_now;
@@ -165,6 +167,7 @@ module _ {M F : Type 0} (r : Recording M) (f : Following F) (c : Course) (core :
             may = may;
             put = subst (Adds sink.holds old new) begins.1 part.added;
             rose = part.rose;
+            uncounted = ap (λ (g : GateState). g.released) made ∙ at.gates.released;
             broken = record {
               follows = follows_on f c core parts.hub parts.followers.items at.follows true (core.released + done) (event_IsSound plan core (Break count done) (is_plan c is) at.follows.sound may);
               end = at.end;

@@ -1,9 +1,11 @@
 -- A run under way, where the core stands, and what each turn makes of it.
-use Rattle.std.specs.Prelude.{◌≡◌, ◌⊎◌, ℕ, ◌+◌, ◌-◌, ◌*◌, ◌≤◌, ◌<◌, ◌==◌, Bool, true, false, if◌then◌else◌, List, [], ◌∷◌, ◌++◌, length, take, drop, sum_by, slice_index}
+use Rattle.std.specs.Prelude.{◌≡◌, ◌⊎◌, ℕ, ◌+◌, ◌-◌, ◌*◌, ◌≤◌, ◌<◌, ◌==◌, Bool, true, false, if◌then◌else◌, List, [], ◌∷◌, ◌++◌, length, take, drop, is_some, sum_by, slice_index}
 use Rattle.after_edge.specs.Fault.{Rose}
 use Rattle.after_edge.specs.Sink.{Telling, Adds, Writes, WritesPart}
 use Rattle.gate_core.specs.Core.{CoreState, Append, Close, Break, May, after_event, opening}
 use Rattle.gate_core.specs.Hub.{HubState}
+use Rattle.output_gate.specs.Gate.{GateState, count_below, with_release}
+use Rattle.run_events.specs.declared.item.Item.{Item}
 use Rattle.turn_run.specs.declared.parts.Parts.{Parts}
 use Rattle.turn_run.specs.declared.parts.Recorded.{Recorded}
 use Rattle.turn_run.specs.declared.parts.Recorded.TheVariants.{Appended, Closed, Waits, Over}
@@ -14,7 +16,7 @@ use Rattle.turn_run.specs.Following.{Following}
 use Rattle.turn_run.specs.Sources.{StillToCome, items_left}
 use Rattle.turn_run.specs.Course.{Course, log_of, output_of, bytes_in, plan_of, released_bytes}
 use Rattle.turn_run.specs.Replicas.{Follows, after_turn}
-use Rattle.turn_run.specs.Gates.{Gates, issued_by, released_by}
+use Rattle.turn_run.specs.Gates.{Gates, issued_by, least_approved, refusals, released_by, withheld_from}
 use Rattle.turn_run.specs.Endings.{end_in}
 
 -- so many bytes are released
@@ -28,6 +30,11 @@ bytes_between c from to = bytes_in (drop from (take to (output_of c)))
 -- how many records each reader has still to take, together
 abbrev pub unread : HubState → ℕ
 unread hub = sum_by (λ count. hub.appended - count) hub.taken
+
+-- the next of these items carries a byte
+abbrev pub next_has_byte : List Item → Bool
+next_has_byte [] = false
+next_has_byte (item ∷ items) = is_some item.byte
 
 -- each follower has taken all that was appended
 abbrev pub AllTaken : Course → CoreState → Type 0
@@ -105,9 +112,12 @@ module _ {M F : Type 0} (r : Recording M) (f : Following F) where
     pub all : core.appended ≡ length c.items
     pub at : IsAt c (after_event (plan_of c) core Close) after
 
-  -- there is no place in the log, since some follower has a whole log still to take, or none in the gate
+  -- there is no place in the log, since some follower has a whole log still to take, or none in the gate for the byte of
+  -- the next record
   abbrev pub HasNoRoom : Course → CoreState → ℕ → Type 0
-  HasNoRoom c core waiting = ((reader : ℕ) × (reader < length c.limits) × (slice_index core.taken reader + c.cap ≡ core.appended)) ⊎ (waiting ≡ 4096)
+  HasNoRoom c core waiting =
+      ((reader : ℕ) × (reader < length c.limits) × (slice_index core.taken reader + c.cap ≡ core.appended))
+      ⊎ ((waiting ≡ 4096) × (next_has_byte (drop core.appended c.items) ≡ true))
 
   -- it found no room for the next record, which waits
   pub record HasWaited (c : Course) (core : CoreState) (before after : Parts M F) : Type 0 where
@@ -133,10 +143,16 @@ module _ {M F : Type 0} (r : Recording M) (f : Following F) where
 
   -- A TURN OF THE GATE
 
-  -- It put the bytes up to some place of the output, all of them approved by each required follower; where nothing was
-  -- put or dropped and all records were taken, none waits.
+  -- how many of the waiting bytes every required follower approves
+  abbrev pub approved_count : Course → CoreState → GateState → ℕ
+  approved_count c core gate = count_below (least_approved core.approved c.required) gate.steps
+
+  -- It put exactly the waiting bytes that every required follower approves, and from then on withholds all from each step
+  -- that one of them refuses. Where all records were taken, none waits any more.
   pub record HasReleased {S : Type 0} (c : Course) (core : CoreState) (before after : Parts M F) (sink : Telling S) (old new : S) : Type 0 where
     pub count : ℕ
+    pub exact : count ≡ core.released + approved_count c core before.gate
+    pub gate : after.gate ≡ withheld_from (refusals before.hub c.required) (with_release before.gate (approved_count c core before.gate))
     pub more : core.released ≤ count
     pub at : IsAt c (with_released core count) after
     pub put : Writes sink old new (bytes_between c core.released count)
@@ -162,6 +178,7 @@ module _ {M F : Type 0} (r : Recording M) (f : Following F) where
     pub may : May (plan_of c) core (Break count done)
     pub put : Adds sink.holds old new (bytes_between c core.released (core.released + done))
     pub rose : Rose (sink.faults old) (sink.faults new)
+    pub uncounted : after.gate.released ≡ core.released
     pub broken : IsBroken c (after_event (plan_of c) core (Break count done)) after
 
   -- A PERIOD OF TURNS

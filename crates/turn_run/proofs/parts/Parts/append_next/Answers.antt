@@ -6,7 +6,7 @@ use Rattle.gate_core.specs.Hub.{HubState, full_of, with_append}
 use Rattle.gate_core.specs.Follow.{hub_of}
 use Rattle.turn_run.specs.Course.{plan_of}
 use Rattle.turn_run.specs.Sources.{IsFirstOf, IsNextOf, items_left}
-use Rattle.turn_run.proofs.AppendLaws.{after_append, after_close, lessens_append, lessens_close, lessens_none, next, rises, waits_for_log}
+use Rattle.turn_run.proofs.AppendLaws.{after_append, after_close, lessens_append, lessens_close, lessens_none, next, rises, waits_for_gate, waits_for_log}
 use Rattle.turn_run.proofs.parts.Parts.append_next.Goals as goal
 
 pub returns-in_default-clause-records : goal.returns-in_default-clause-records
@@ -19,6 +19,12 @@ returns-in_default-clause-lessens g c =
     let left = items_left g.M.Recorder.recording in
     let less = subst (λ o. MatchOption o (left c.next.new.self ≤ left c.args.self.now.source) (λ _. left c.next.new.self < left c.args.self.now.source)) c.in_default.is c.next.ensures.falls in
     lessens_close (left c.args.self.now.source) (left c.next.new.self) c.args.self.now.hub c.close.new.self (length c.args.self.now.gate.steps) less (sym c.if-is_closed.ensures) c.close.ensures
+
+pub returns-then-is_crowded-clause-records : goal.returns-then-is_crowded-clause-records
+returns-then-is_crowded-clause-records g c = λ of core at.
+    let first = c.in-Some.ensures.given (drop core.appended of.items) at.rest in
+    waits_for_gate g.M.Recorder.recording g.F.Follower.following of core c.args.self.now at c.in-Some.item first.rest first.first c.put_back.new.self (sym c.if-is_closed.ensures)
+    (c.put_back.ensures.back first.rest first.to_come) (sym c.if-is_crowded.ensures)
 
 pub append-requires-clause-item : goal.append-requires-clause-item
 append-requires-clause-item g c =
