@@ -24,7 +24,9 @@ use Rattle.guard_run.specs.declared.replica.Replica.{Replica}
 use Rattle.guard_run.specs.Closings.{Closes, ClosesFront, ClosesWhole, closing_of, end_back, end_in, facts_at, facts_with}
 use Rattle.guard_run.specs.Course.{Course, IsCourse, run_of, log_of, output_of}
 use Rattle.guard_run.specs.Gates.{issued_by, released_by}
-use Rattle.guard_run.specs.Replicas.{Follows, taken_by}
+use Rattle.guard_run.specs.Replicas.{Follows, taken_by, verdict_of}
+use Rattle.replayer.specs.Replays.{Replays}
+use Rattle.std.specs.Prelude.{reverse}
 use Rattle.guard_run.specs.Runs.{IsEnded, IsStopped}
 use Rattle.guard_run.proofs.CourseLaws.{numbered, reach_whole}
 use Rattle.guard_run.proofs.ItemLaws.{issued_all}
@@ -49,6 +51,8 @@ module _ (c : Course) (core : CoreState) (hub : HubState) (replica : Replica) (f
         appended = (λ i. (f.stands i).appended) ∙ sym long;
         taken = (λ i. (f.stands i).taken) ∙ taken_is ∙ ap (λ n. n ∷ []) (sym long);
         stored = λ i. (f.stands i).stored;
+        replays = subst (λ n. Replays c.start (reverse (take n (log_of c))) replica.replay) taken f.replays;
+        posted = (λ i. (f.stands i).verdicts) ∙ ap (λ n. verdict_of c n ∷ []) (taken ∙ sym long);
         seen = subst (λ n. HasSeen replica.analysis (take (reach (take n (log_of c))) (run_of c).events)) taken f.seen;
         made = f.made;
         end = end_is;
@@ -66,6 +70,7 @@ ended_closes c parts e =
           (take_all (reach (log_of c)) (run_of c).events (omega (arith, reach_whole c f.course, (numbered c f.course).steps)))
           closed.seen;
       released = e.at.gates.released ∙ e.released;
+      none = e.none;
     }
 
 pub stopped_closes : (c : Course) (parts : Parts) → IsStopped c parts → ClosesFront c (closing_of parts)

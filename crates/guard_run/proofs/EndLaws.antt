@@ -73,6 +73,7 @@ module _ (c : Course) (core : CoreState) (parts : Parts) (idle : IsIdle c core p
       appended = all_appended;
       taken = idle.taken;
       released = long ∙ ap length kept_is ∙ sym (length-map (before_step (stop_of c) (output_of c)) (λ (byte : ℕ × ℕ). byte.1));
+      none = idle.none;
     };
     put = Writes-same sink old new (ap bytes_in released_is) put;
   }

@@ -165,6 +165,7 @@ pub record IsEnded (c : Course) (parts : Parts) : Type 0 where
   pub appended : core.appended ≡ length (log_of c)
   pub taken : taken_by core ≡ core.appended
   pub released : core.released ≡ length (released_bytes c)
+  pub none : parts.gate.steps ≡ []
 
 -- a run that a failed put has ended: the log was closed, and all of it was taken
 pub record IsStopped (c : Course) (parts : Parts) : Type 0 where
