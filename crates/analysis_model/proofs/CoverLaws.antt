@@ -5,10 +5,8 @@ use Rattle.std.specs.Option.{option_map}
 use Rattle.run_events.specs.declared.event.Event.{Event}
 use Rattle.run_events.specs.declared.event.Event.TheVariants.{Dma, Irq, Trap, Exec}
 use Rattle.run_events.specs.declared.finding.Kind.TheVariants as kind
-use Rattle.analysis_model.specs.Complaints.{Guest, complaint}
-use Rattle.analysis_model.specs.Complaints as all
+use Rattle.analysis_model.specs.Complaints.{Guest, complaint, findings}
 use Rattle.analysis_model.specs.Cover.{Span, is_within, bad_pc, cover, outside}
-use Rattle.analysis_model.specs.Findings.{findings}
 use Rattle.analysis_model.specs.Look.{finding_of, found_at, told_after}
 
 at_pc : (b : Bool) (event : Event) (pc : ℕ) → option_map (finding_of event) (cond b None (Some (bad_pc pc))) ≡ cond b None (Some (finding_of event (bad_pc pc)))
@@ -28,5 +26,5 @@ told-outside guest before (event ∷ events) =
     ∙ ap (cons_option (outside guest.code event)) (told-outside guest (event ∷ before) events)
 
 -- they need nothing before an event, and nothing of the guest but its code
-pub findings-cover : (guest : Guest) (events : List Event) → all.findings kind.Cover guest events ≡ findings kind.Cover guest.code events
+pub findings-cover : (guest : Guest) (events : List Event) → findings kind.Cover guest events ≡ filter_map (outside guest.code) events
 findings-cover guest events = told-outside guest [] events

@@ -1,8 +1,6 @@
 pub mod ContextLaws
 pub mod CoverLaws
-mod Examples
 pub mod FindingLaws
-pub mod FirstLaws
 pub mod HeapLaws
 pub mod LookLaws
 pub mod MadeLaws

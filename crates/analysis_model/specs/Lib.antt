@@ -6,7 +6,6 @@ pub mod Cover
 pub mod Findings
 pub mod Heap
 pub mod InRam
-pub mod Job
 pub mod Locks
 pub mod Look
 pub mod Made

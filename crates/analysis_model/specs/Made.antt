@@ -6,7 +6,7 @@ use Rattle.run_events.specs.declared.finding.Kind.TheVariants.{Heap, Taint, Call
 use Rattle.machine_model.specs.Image.{Image, Segment}
 use Rattle.analysis_model.specs.Calls.{frames_kept}
 use Rattle.analysis_model.specs.Complaints.{Guest}
-use Rattle.analysis_model.specs.Cover.{Span}
+use Rattle.analysis_model.specs.Cover.{Span, executable_spans}
 use Rattle.analysis_model.specs.Locks.{locks_kept}
 
 abbrev pub code_numbers : List Segment → List ℕ
@@ -42,3 +42,7 @@ code_made_of (kind ∷ numbers) = spans_made_of numbers
 -- a guest of so many KiB of RAM whose analysis is made of these, at the sizes that analyses have
 abbrev pub guest_made_of : ℕ → List ℕ → Guest
 guest_made_of ram_kib made = record { code = code_made_of made; ram_kib = ram_kib; frames = frames_kept; locks = locks_kept }
+
+-- the guest of an image, at these sizes
+abbrev pub guest_of : Image → ℕ → Guest
+guest_of image ram_kib = record { code = executable_spans image; ram_kib = ram_kib; frames = frames_kept; locks = locks_kept }

@@ -1,5 +1,5 @@
--- The text that a job writes: its released output, and the report.
-use Rattle.std.specs.Prelude.{ℕ, ◌/◌, ◌%◌, ◌^◌, false, List, [], ◌∷◌, ◌++◌, map, length, take, Option, None, Some, codes, decimal}
+-- The lines of the report: its head, and the part of each analysis.
+use Rattle.std.specs.Prelude.{ℕ, ◌/◌, ◌%◌, ◌^◌, false, List, [], ◌∷◌, ◌++◌, length, take, Option, None, Some, codes, decimal}
 use Rattle.std.specs.Fmt.{digit_glyph}
 use Rattle.std.specs.List.{flat_map}
 use Rattle.run_events.specs.declared.event.Event.{Event}
@@ -9,11 +9,11 @@ use Rattle.run_events.specs.declared.finding.FindingKind.TheVariants.{Red, Freed
 use Rattle.run_events.specs.declared.finding.Kind.{Kind}
 use Rattle.run_events.specs.declared.finding.Kind.TheVariants.{Heap, Taint, Calls, Cover, Locks}
 use Rattle.run_events.specs.declared.record.EndCause.{EndCause}
-use Rattle.run_events.specs.declared.record.EndCause.TheVariants.{Power, Limit, Stuck}
-use Rattle.machine_model.specs.Run.{Finished, output, log}
-use Rattle.analysis_model.specs.Cover.{Span, executed_pcs, executed_ranges, executable_spans}
-use Rattle.analysis_model.specs.Findings.{findings, first_step, tally, kept}
-use Rattle.analysis_model.specs.Job.{Job, finished, released, released_of}
+use Rattle.run_events.specs.declared.record.EndCause.TheVariants.{Power, Limit}
+use Rattle.analysis_model.specs.Calls.{unmatched_count}
+use Rattle.analysis_model.specs.Complaints.{Guest, findings}
+use Rattle.analysis_model.specs.Cover.{Span, executed_pcs, executed_ranges}
+use Rattle.analysis_model.specs.Findings.{first_step, stopping, tally, kept}
 
 -- one line: its text, and a line feed
 abbrev pub line : List ℕ → List ℕ
@@ -33,19 +33,6 @@ pub record Facts : Type 0 where
   pub released : ℕ
   pub items : ℕ
 
--- the number of records of the log goes into the report, and not the log
-abbrev pub run_facts : List Span → Finished → List Kind → Facts
-run_facts code run required = record {
-  steps = run.steps;
-  end = run.cause;
-  issued = length (output run.events);
-  released = length (released_of code run required);
-  items = length (log run);
-}
-
-abbrev pub facts : Job → Facts
-facts job = run_facts (executable_spans job.image) (finished job) job.required
-
 unfoldable pub title_line : List ℕ
 title_line = line (codes "== aftersight report")
 
@@ -55,7 +42,6 @@ steps_line steps = line (codes "steps " ++ decimal steps)
 unfoldable pub end_line : EndCause → List ℕ
 end_line (Power status) = line (codes "end power " ++ decimal status)
 end_line Limit = line (codes "end limit")
-end_line Stuck = line (codes "end stuck")
 
 unfoldable pub output_line : ℕ → ℕ → List ℕ
 output_line issued released = line (codes "output " ++ decimal issued ++ codes " released " ++ decimal released)
@@ -104,41 +90,25 @@ unfoldable pub finding_line : Kind → Finding → List ℕ
 finding_line kind f =
     line (kind_name kind ++ codes " " ++ finding_name f.kind ++ codes " at " ++ decimal f.step ++ codes " pc " ++ hexadecimal f.pc ++ codes " addr " ++ hexadecimal f.address)
 
--- what the report tells of one analysis
-pub record Summary : Type 0 where
-  pub first : Option ℕ
-  pub count : ℕ
-  pub kept : List Finding
-  pub pcs : ℕ
-  pub ranges : List Span
+unfoldable pub unmatched_line : ℕ → List ℕ
+unmatched_line count = line (codes "calls unmatched " ++ decimal count)
 
--- coverage of a guest whose code is at these addresses, over a run's events
-abbrev pub cover_summary : List Span → List Event → Summary
-cover_summary code events = record {
-  first = first_step (findings Cover code events);
-  count = tally (findings Cover code events);
-  kept = kept (findings Cover code events);
-  pcs = length (executed_pcs events);
-  ranges = executed_ranges events;
-}
+-- of coverage: the pc values, and the first 64 ranges
+unfoldable pub ranges_text : ℕ → List Span → List ℕ
+ranges_text pcs ranges = pcs_line pcs (length ranges) ++ flat_map range_line (take 64 ranges)
 
--- coverage's lines: the findings, the pc values, the first 64 ranges, the kept findings
-unfoldable pub cover_text : Summary → List ℕ
-cover_text s =
-    findings_line Cover s.count s.first ++ pcs_line s.pcs (length s.ranges) ++ flat_map range_line (take 64 s.ranges) ++ flat_map (finding_line Cover) s.kept
+-- what an analysis of this kind tells of a guest's events beside its findings
+abbrev pub more_text : Guest → List Event → Kind → List ℕ
+more_text guest events Heap = []
+more_text guest events Taint = []
+more_text guest events Calls = unmatched_line (stopping (unmatched_count guest.frames events))
+more_text guest events Cover = ranges_text (length (executed_pcs events)) (executed_ranges events)
+more_text guest events Locks = []
 
--- the lines of an analysis. Coverage alone is built, and no job names another.
-abbrev pub part_text : List Span → List Event → Kind → List ℕ
-part_text code events Cover = cover_text (cover_summary code events)
-part_text code events Heap = []
-part_text code events Taint = []
-part_text code events Calls = []
-part_text code events Locks = []
+-- its findings: their number and the first one's step, what there is to tell beside them, and those that are kept
+abbrev pub found_text : Kind → List Finding → List ℕ → List ℕ
+found_text kind found more = findings_line kind (tally found) (first_step found) ++ more ++ flat_map (finding_line kind) (kept found)
 
--- the report of a job
-abbrev pub report : Job → List ℕ
-report job = head_text (facts job) ++ flat_map (part_text (executable_spans job.image) (finished job).events) job.kinds
-
--- the bytes of the released output, then the report
-abbrev pub text : Job → List ℕ
-text job = map (λ byte. byte.1) (released job) ++ report job
+-- the lines of an analysis
+abbrev pub part_text : Guest → List Event → Kind → List ℕ
+part_text guest events kind = found_text kind (findings kind guest events) (more_text guest events kind)

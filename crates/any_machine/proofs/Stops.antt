@@ -7,7 +7,7 @@ use Rattle.std.proofs.lemmas.Bool.Decides.{nat_tests}
 use Rattle.run_events.specs.declared.fault.Diverged.{Diverged}
 use Rattle.run_events.specs.declared.fault.Why.{Why}
 use Rattle.run_events.specs.declared.fault.Why.TheVariants.{EndsElsewhere, StepFalls}
-use Rattle.run_events.specs.declared.record.EndCause.TheVariants.{Power, Limit, Stuck}
+use Rattle.run_events.specs.declared.record.EndCause.TheVariants.{Power, Limit}
 use Rattle.run_events.specs.declared.record.Record.{Record}
 use Rattle.run_events.specs.declared.record.Record.TheVariants.{Load, Lines, Dma, Reach, End}
 use Rattle.run_events.specs.Record.{number, is_admitted, reach_back}
@@ -23,7 +23,6 @@ pub number_after : (item : Record) (steps status : ℕ) → is_after_power steps
 number_after (Reach step) steps status is = eqb-true step steps is
 number_after (End step (Power told)) steps status is = eqb-true step steps (and_parts (step == steps) (told == status) is).0
 number_after (End step Limit) steps status is = cc
-number_after (End step Stuck) steps status is = cc
 number_after (Load step value mark) steps status is = cc
 number_after (Lines step bits) steps status is = cc
 number_after (Dma step address word mark) steps status is = cc

@@ -3,7 +3,7 @@ use Rattle.std.proofs.Common.{◌≡◌, ℕ, List, [], ◌∷◌, length, Optio
 use Rattle.memory_map.specs.declared.TheConstants.{RAM_START}
 use Rattle.run_events.specs.declared.fault.Diverged.{Diverged}
 use Rattle.run_events.specs.declared.fault.Why.TheVariants.{MissingLoad, UnusedLoad, BadDma, StepFalls, EndsElsewhere}
-use Rattle.run_events.specs.declared.record.EndCause.TheVariants.{Power, Limit, Stuck}
+use Rattle.run_events.specs.declared.record.EndCause.TheVariants.{Power, Limit}
 use Rattle.run_events.specs.declared.record.Record.{Record}
 use Rattle.run_events.specs.declared.record.Record.TheVariants.{Load, Lines, Dma, Reach, End}
 use Rattle.any_machine.specs.Replay.{fault_at, state_at, turns_below, first_stop, outcome, first_fault, executed, shown}
@@ -81,10 +81,6 @@ power_before_the_store = refl
 limit_before_the_store : found (Load 0 65 1 ∷ End 4 Limit ∷ []) ≡ (None, (4, 4))
 unfolding found toy state_at turns_below first_stop outcome
 limit_before_the_store = refl
-
-stuck_never_fits : found (Load 0 65 1 ∷ End 4 Stuck ∷ []) ≡ (Some (fault_at 4 EndsElsewhere), (4, 4))
-unfolding found toy state_at turns_below first_stop outcome
-stuck_never_fits = refl
 
 word_is_not_in_RAM : found (Load 0 65 1 ∷ Dma 2 RAM_START 1 0 ∷ Dma 2 0 1 0 ∷ []) ≡ (Some (fault_at 2 BadDma), (2, 3))
 unfolding found toy state_at turns_below first_stop outcome

@@ -6,4 +6,5 @@ pub mod Replay
 pub mod Held
 pub mod Carries
 pub mod Recorder
+pub mod Recording
 pub mod Law

@@ -7,7 +7,7 @@ use Rattle.run_events.specs.declared.fault.Diverged.{Diverged}
 use Rattle.run_events.specs.declared.fault.Why.{Why}
 use Rattle.run_events.specs.declared.fault.Why.TheVariants.{MissingLoad, UnusedLoad, BadDma, StepFalls, EndsElsewhere}
 use Rattle.run_events.specs.declared.record.EndCause.{EndCause}
-use Rattle.run_events.specs.declared.record.EndCause.TheVariants.{Power, Limit, Stuck}
+use Rattle.run_events.specs.declared.record.EndCause.TheVariants.{Power, Limit}
 use Rattle.run_events.specs.declared.record.Record.{Record}
 use Rattle.run_events.specs.declared.record.Record.TheVariants.{Load, Lines, Dma, Reach, End}
 use Rattle.run_events.specs.declared.supply.Need.{Need}
@@ -76,7 +76,6 @@ abbrev pub is_after_power : ℕ → ℕ → Record → Bool
 is_after_power steps status (Reach step) = step == steps
 is_after_power steps status (End step (Power told)) = step == steps && told == status
 is_after_power steps status (End step Limit) = false
-is_after_power steps status (End step Stuck) = false
 is_after_power steps status (Load step value mark) = false
 is_after_power steps status (Lines step bits) = false
 is_after_power steps status (Dma step address word mark) = false
@@ -99,7 +98,6 @@ has_status told (Some status) = told == status
 abbrev pub end_agrees : EndCause → Option ℕ → Bool
 end_agrees (Power told) power = has_status told power
 end_agrees Limit power = not (is_some power)
-end_agrees Stuck power = false
 
 -- what is wrong with an end by itself: a value is kept for a step that never comes, or it does not agree
 abbrev pub end_fault : ℕ → EndCause → Option Supplied → Option ℕ → Option Diverged

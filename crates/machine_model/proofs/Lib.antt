@@ -1,8 +1,2 @@
-pub mod Determinism
-pub mod ItemLaws
-pub mod NumberLaws
 mod BoardExamples
 pub mod BoardLaws
-mod ReplayExamples
-pub mod RunLaws
-pub mod ShownLaws

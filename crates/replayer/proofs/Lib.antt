@@ -1,4 +1,0 @@
-pub mod Determinism
-pub mod JudgeLaws
-pub mod StepLaws
-pub mod TakeLaws

@@ -1,3 +1,2 @@
-pub mod Place
+pub mod Guest
 pub mod Replays
-pub mod Taking

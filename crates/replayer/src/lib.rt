@@ -1,15 +1,9 @@
-//! The replay: a machine without devices that is fed a list of records, and says where the list does not fit its guest.
+//! The replay of a guest: a hart without devices that is fed a list of records, and says where the list does not fit.
 #![tactic(auto)]
 
-mod diverged;
-mod law;
-mod order;
-mod place;
 mod replay;
-mod running;
 #[cfg(test)]
 mod tests;
 
-pub use diverged::{Diverged, Why};
-pub use law::log_fits;
 pub use replay::Replay;
+pub use run_events::{Diverged, Why};

@@ -1,35 +1,32 @@
-//! The replay, fed record by record.
-use crate::order::{is_admitted, number};
-use crate::place::place;
-use crate::running::run_to;
-use crate::{Diverged, Why};
+//! The replay of a guest, fed record by record.
+use crate::Diverged;
 use elf_image::Image;
-use first_cpu::Cpu;
 use memory_map::NoMemory;
 use run_events::{Record, Watcher};
+use rv_cpu::Cpu;
 use rv_memory::Ram;
 use std::alloc::Global;
 
-/// A machine without devices that is fed a list of records. Contracts see the list by `Replays`.
+/// A hart without devices that is fed a list of records. Contracts see the list by `Replays`.
 #[derive(Drop)]
 pub struct Replay {
-    cpu: Cpu,
-    // the status, where the last step was a power store
-    power: Option<u8>,
-    last: Option<Record>,
-    diverged: Option<Diverged>,
-    takes: u64,
+    fed: any_replay::Replay<Cpu>,
 }
 
 impl Replay {
-    ghost use Rattle.std.specs.Prelude.{◌≡◌, ◌+◌, ◌*◌, ◌%◌, ◌≤◌, ◌++◌, [], ◌∷◌, List, None, length, min, IfOk, IsTrue, is_some};
-    ghost use Rattle.run_events.specs.declared.event.Event.{Event};
+    ghost use Rattle.std.specs.Prelude.{◌≡◌, ◌*◌, ◌%◌, ◌≤◌, ◌++◌, [], ◌∷◌, List, IfOk, IsTrue, is_some};
+    ghost use Rattle.run_events.specs.declared.event.Event.{Event as Shown};
+    ghost use Rattle.run_events.specs.declared.record.Record.{Record as Item};
     ghost use Rattle.run_events.specs.Record.{IsRecord};
     ghost use Rattle.machine_model.specs.Image.{IsLoadable};
-    ghost use Rattle.machine_model.specs.State.{State, started};
-    ghost use Rattle.machine_model.specs.Replay.{is_taken, shown_back};
+    ghost use Rattle.hart_model.specs.Fetch.{grain};
+    ghost use Rattle.hart_model.specs.Machine.{hart};
+    ghost use Rattle.hart_model.specs.State.{State};
+    ghost use Rattle.any_machine.specs.Replay.{outcome, shown_by};
+    ghost use Rattle.any_replay.specs.Replays.{state_in};
+    ghost use Rattle.any_replay.specs.Taking.{answer_of, takes_after};
+    ghost use Rattle.replayer.specs.Guest.{started, ram_bytes};
     ghost use Rattle.replayer.specs.Replays.{Replays};
-    ghost use Rattle.replayer.specs.Taking.{answer_of, HasAdvanced, takes_after};
 
     /// A replay that was fed nothing, of a guest with this image and `ram_kib` KiB of RAM. It is the only call that
     /// takes memory.
@@ -37,101 +34,64 @@ impl Replay {
         requires least { 64 ≤ ram_kib }
         requires most { ram_kib ≤ 16384 }
         requires loadable { IsLoadable (1024 * ram_kib) image.now.segments }
-        requires entry { image.now.entry % 4 ≡ 0 }
+        requires entry { image.now.entry % grain ≡ 0 }
         ensures replays { IfOk result (λ replay. Replays (started image.now ram_kib) [] replay) }
-        ensures size { IfOk result (λ replay. length replay.cpu.ram ≡ 1024 * ram_kib) }
-        ensures takes { IfOk result (λ replay. replay.takes ≡ 0) }
+        ensures size { IfOk result (λ replay. ram_bytes replay.fed.standing.hart ≡ 1024 * ram_kib) }
+        ensures takes { IfOk result (λ replay. replay.fed.takes ≡ 0) }
     {
         let mut ram = Ram::new(alloc, ram_kib)?;
         image.load_into(&mut ram);
         Ok(Replay {
-            cpu: Cpu::new(ram, image.entry),
-            power: None,
-            last: None,
-            diverged: None,
-            takes: 0,
+            fed: any_replay::Replay::new(Cpu::new(ram, image.entry)),
         })
     }
 
-    // Executes the steps that a record has below its number, and says where it does not fit.
-    fn advance<W: Watcher>(&mut self, item: &Record, seen: &mut W) -> Option<Diverged>
-        requires item { IsRecord item.now }
-        requires taken { IsTrue (is_taken item.now) }
-        requires size { length self.old.cpu.ram ≡ 1024 * W.ram_kib seen.old }
-        ensures advanced { (start : State) (before : List Record) → Replays start before self.old → self.old.diverged ≡ None → HasAdvanced start before item.now self.new.cpu self.new.power result }
-        ensures shown { (start : State) (before : List Record) (h : List Event) → Replays start before self.old → self.old.diverged ≡ None → W.has_seen seen.old (h ++ shown_back start before) → W.has_seen seen.new (h ++ shown_back start (item.now ∷ before)) }
-        ensures ram { length self.new.cpu.ram ≡ length self.old.cpu.ram }
-        ensures same { self.new.diverged ≡ self.old.diverged }
-        ensures takes { self.new.takes ≡ self.old.takes }
-        ensures size { W.ram_kib seen.new ≡ W.ram_kib seen.old }
-        ensures made { W.make seen.new ≡ W.make seen.old }
-    {
-        let number = number(item);
-        if !is_admitted(self.last, item) {
-            return Some(Diverged {
-                step: number,
-                why: Why::StepFalls,
-            });
-        }
-        self.power = run_to(&mut self.cpu, self.power, number, seen);
-        let stuck = !self.cpu.can_step(0);
-        match place(self.cpu.steps(), self.power, stuck, number, item) {
-            Some(step) => Some(Diverged {
-                step,
-                why: Why::EndsElsewhere,
-            }),
-            None => None,
-        }
-    }
-
-    /// Takes the next record: executes the steps below its number, as far as the list fits, and shows each event. It
-    /// answers the first fault of the list so far, if there is one. After a fault it answers the same at every call and
-    /// shows nothing. It takes no memory.
+    /// Takes the next record: does the steps below its number, as far as the list fits, and shows each event; then it
+    /// keeps the lines or the value that the record brings, or has its word written and shows that. It answers the first
+    /// fault of the list so far, if there is one. After a fault it answers the same at every call, does nothing and shows
+    /// nothing. It takes no memory.
     pub fn take<W: Watcher>(&mut self, item: &Record, seen: &mut W) -> Result<(), Diverged>
         requires item { IsRecord item.now }
-        requires taken { IsTrue (is_taken item.now) }
-        requires size { length self.old.cpu.ram ≡ 1024 * W.ram_kib seen.old }
-        ensures answer { result ≡ answer_of self.new.diverged }
-        ensures replays { (start : State) (before : List Record) → Replays start before self.old → Replays start (item.now ∷ before) self.new }
-        ensures shown { (start : State) (before : List Record) (h : List Event) → Replays start before self.old → W.has_seen seen.old (h ++ shown_back start before) → W.has_seen seen.new (h ++ shown_back start (item.now ∷ before)) }
-        ensures diverged { IsTrue (is_some self.old.diverged) → self.new ≡ self.old }
-        ensures still { IsTrue (is_some self.old.diverged) → seen.new ≡ seen.old }
-        ensures takes { self.new.takes ≡ takes_after self.old.takes self.new.diverged }
-        ensures ram { length self.new.cpu.ram ≡ length self.old.cpu.ram }
+        requires size { ram_bytes self.old.fed.standing.hart ≡ 1024 * W.ram_kib seen.old }
+        ensures answer { result ≡ answer_of self.new.fed.diverged }
+        ensures replays { (start : State) (before : List Item) → Replays start before self.old
+            → Replays start (item.now ∷ before) self.new }
+        ensures shown { (start : State) (before : List Item) (h : List Shown) → Replays start before self.old
+            → W.has_seen seen.old (h ++ shown_by hart start (outcome hart start before))
+            → W.has_seen seen.new (h ++ shown_by hart start (outcome hart start (item.now ∷ before))) }
+        ensures diverged { IsTrue (is_some self.old.fed.diverged) → self.new ≡ self.old }
+        ensures still { IsTrue (is_some self.old.fed.diverged) → seen.new ≡ seen.old }
+        ensures takes { self.new.fed.takes ≡ takes_after self.old.fed.takes self.new.fed.diverged }
+        ensures ram { ram_bytes self.new.fed.standing.hart ≡ ram_bytes self.old.fed.standing.hart }
         ensures size { W.ram_kib seen.new ≡ W.ram_kib seen.old }
         ensures made { W.make seen.new ≡ W.make seen.old }
     {
-        if let Some(diverged) = self.diverged {
-            return Err(diverged);
-        }
-        if let Some(diverged) = self.advance(item, seen) {
-            self.diverged = Some(diverged);
-            return Err(diverged);
-        }
-        self.last = Some(*item);
-        self.takes = self.takes.saturating_add(1);
-        Ok(())
+        self.fed.take(item, seen)
     }
 
-    /// The number of steps executed.
+    /// The number of steps done.
     pub fn reach(&self) -> u32
-        ensures { result ≡ self.now.cpu.step }
+        ensures done { result ≡ self.now.fed.standing.hart.step }
+        ensures executed { (start : State) (items : List Item) → Replays start items self.now
+            → result ≡ (outcome hart start items).done }
     {
-        self.cpu.steps()
+        self.fed.reach()
     }
 
     /// The hart.
     pub fn cpu(&self) -> &Cpu
-        ensures { result.now ≡ self.now.cpu }
+        ensures cpu { result.now ≡ self.now.fed.standing.hart }
+        ensures state { (start : State) (items : List Item) → Replays start items self.now
+            → result.now ≡ state_in hart start (outcome hart start items) }
     {
-        &self.cpu
+        self.fed.hart()
     }
 
     /// The number of records accepted, which stops at 2^64 - 1.
     pub fn takes(&self) -> u64
-        ensures { result ≡ self.now.takes }
+        ensures { result ≡ self.now.fed.takes }
     {
-        self.takes
+        self.fed.takes()
     }
 }
 

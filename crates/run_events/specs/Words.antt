@@ -1,28 +1,10 @@
 -- The two words of a record.
 use Rattle.std.specs.Prelude.{◌≡◌, ℕ, ◌+◌, ◌*◌, ◌/◌, ◌%◌, ◌^◌, ◌<◌, ◌==◌, Option, None, Some, if◌then◌else◌}
 use Rattle.run_events.specs.declared.record.EndCause.{EndCause}
-use Rattle.run_events.specs.declared.record.EndCause.TheVariants.{Power, Limit, Stuck}
+use Rattle.run_events.specs.declared.record.EndCause.TheVariants.{Power, Limit}
 use Rattle.run_events.specs.declared.record.Record.{Record}
 use Rattle.run_events.specs.declared.record.Record.TheVariants.{Load, Lines, Dma, Reach, End}
 use Rattle.run_events.specs.Record.{IsRecord, number}
-
--- An end that is not a run's has no words. It goes with that cause.
-abbrev pub IsWrittenCause : EndCause → Type 0
-IsWrittenCause (Power status) = Unit {0}
-IsWrittenCause Limit = Unit {0}
-IsWrittenCause Stuck = ⊥
-
-abbrev pub IsWrittenEnd : Record → Type 0
-IsWrittenEnd (Load step value mark) = Unit {0}
-IsWrittenEnd (Lines step bits) = Unit {0}
-IsWrittenEnd (Dma step address word mark) = Unit {0}
-IsWrittenEnd (Reach step) = Unit {0}
-IsWrittenEnd (End step cause) = IsWrittenCause cause
-
--- the record is one that has words
-pub record HasWords (item : Record) : Type 0 where
-  pub in_range : IsRecord item
-  pub written : IsWrittenEnd item
 
 -- the number of a kind of record
 abbrev pub kind : Record → ℕ
@@ -47,7 +29,6 @@ first_word item = number item + 2 ^ 32 * kind item + 2 ^ 40 * mark_of item
 abbrev pub cause_word : EndCause → ℕ
 cause_word (Power status) = status
 cause_word Limit = 256
-cause_word Stuck = 0
 
 abbrev pub second_word : Record → ℕ
 second_word (Load step value mark) = value
@@ -60,7 +41,6 @@ second_word (End step cause) = cause_word cause
 abbrev pub FitsCause : EndCause → Type 0
 FitsCause (Power status) = status < 256
 FitsCause Limit = Unit {0}
-FitsCause Stuck = Unit {0}
 
 abbrev pub FitsWord : Record → Type 0
 FitsWord (Load step value mark) = value < 2 ^ 32
@@ -71,7 +51,7 @@ FitsWord (End step cause) = FitsCause cause
 
 -- these two words are those of a record
 pub record AreWordsOf (item : Record) (first second : ℕ) : Type 0 where
-  pub has : HasWords item
+  pub has : IsRecord item
   pub fits : FitsWord item
   pub first_is : first ≡ first_word item
   pub second_is : second ≡ second_word item

@@ -1,9 +1,8 @@
 //! The number and the range of a record.
 ghost use Rattle.std.specs.Prelude.{◌≡◌, ◌↔◌, IsTrue};
 ghost use Rattle.run_events.specs.Record as order;
-ghost use Rattle.run_events.specs.Words.{HasWords};
 
-use crate::{EndCause, Record};
+use crate::Record;
 
 // The largest number of a record.
 const LAST_NUMBER: u32 = 1_000_000_000;
@@ -36,7 +35,7 @@ pub(crate) fn rank(r: &Record) -> u32
 
 /// Whether a record has words: its number, its lines and its mark are in range.
 pub fn is_record(r: &Record) -> bool
-    ensures { IsTrue result ↔ HasWords r.now }
+    ensures { IsTrue result ↔ order.IsRecord r.now }
 {
     match r {
         Record::Load { step, mark, .. } | Record::Dma { step, mark, .. } => {
@@ -44,10 +43,6 @@ pub fn is_record(r: &Record) -> bool
         }
         Record::Lines { step, bits } => *step <= LAST_NUMBER && *bits <= 3,
         Record::Reach { step } => *step <= LAST_NUMBER,
-        Record::End {
-            cause: EndCause::Stuck,
-            ..
-        } => false,
         Record::End { step, .. } => *step <= LAST_NUMBER,
     }
 }

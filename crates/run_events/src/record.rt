@@ -7,8 +7,6 @@ pub enum EndCause {
     Power { status: u8 },
     /// The limit's number of steps was done.
     Limit,
-    /// The next step is not built yet. It goes once the whole machine stands.
-    Stuck,
 }
 
 /// One input of a run that the program text does not determine, or a mark of how far the run has come.

@@ -1,6 +1,7 @@
 //! The two words of a record.
 ghost use Rattle.std.specs.Prelude.{◌≡◌, ◌/◌, ◌%◌, ◌^◌, IfSome};
 ghost use Rattle.run_events.specs.declared.record.Record.{Record};
+ghost use Rattle.run_events.specs.Record.{IsRecord};
 ghost use Rattle.run_events.specs.Words as spec;
 
 use crate::numbers::{is_record, number};
@@ -45,11 +46,7 @@ fn second_word(r: &Record) -> u64
             cause: EndCause::Limit,
             ..
         } => 256,
-        Record::End {
-            cause: EndCause::Stuck,
-            ..
-        }
-        | Record::Reach { .. } => 0,
+        Record::Reach { .. } => 0,
     }
 }
 
@@ -57,7 +54,7 @@ fn second_word(r: &Record) -> u64
 /// 5 End) and from bit 40 on its mark. The second is a Load's value; the bits of Lines; of Dma the address, and from
 /// bit 32 on the word; 0 of Reach; of End the status, or 256 for the limit.
 pub fn to_words(r: &Record) -> (u64, u64)
-    requires { spec.HasWords r.now }
+    requires { IsRecord r.now }
     ensures { spec.AreWordsOf r.now result.0 result.1 }
 {
     let first = u64::from(number(r))

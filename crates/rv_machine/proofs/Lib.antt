@@ -1,1 +1,4 @@
+pub mod ComingLaws
+pub mod MoveLaws
+pub mod StoreLaws
 pub mod TurnLaws

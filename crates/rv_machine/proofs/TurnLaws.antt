@@ -1,92 +1,126 @@
--- What a turn of the recorder gives, from what its step says.
-use Rattle.std.proofs.Common.{◌≡◌, ℕ, zero, suc, ◌+◌, ◌<◌, Bool, true, false, cond, [], ◌∷◌, ◌++◌, Option, Some, None, refl, sym, ap, subst, ◌∙◌, arith}
-use Rattle.std.specs.Prelude.{◌%◌, ◌||◌, ◌==◌, is_some, IfSome}
+-- A hart and a board that go from phase to phase: what was to come is to come, or the next item is given.
+use Rattle.std.proofs.Common.{◌≡◌, ℕ, suc, ◌+◌, ◌-◌, ◌<◌, List, [], ◌∷◌, ◌++◌, length, drop, slice_get, Option, None, Some, true, false, refl, sym, ap, subst, ◌∙◌, arith, add-one}
+use Rattle.std.specs.List.{AllByRecursion}
 use Rattle.run_events.specs.declared.event.Event.{Event}
-use Rattle.run_events.specs.declared.record.EndCause.{EndCause}
-use Rattle.run_events.specs.declared.record.EndCause.TheVariants.{Limit, Stuck}
-use Rattle.run_events.specs.Event.{step_of}
-use Rattle.run_events.specs.Record.{IsRecord, number}
-use Rattle.machine_model.specs.Step.{step_from}
-use Rattle.machine_model.specs.Run.{run_from, power_status, serial_byte}
-use Rattle.machine_model.specs.Items.{Item, items, items_behind}
-use Rattle.machine_model.proofs.RunLaws.{step_from-IsStep}
-use Rattle.machine_model.proofs.ItemLaws.{items-limit, items-stuck, items-power, items-goes}
-use Rattle.rv_machine.specs.declared.board.Given.{Given}
-use Rattle.rv_machine.specs.declared.phase.Phase.{Phase}
-use Rattle.rv_machine.specs.declared.phase.Phase.TheVariants.{Running, Over}
-use Rattle.rv_machine.specs.Recorder.{Recorder, IsNext, IsUnderWay, Turned, end_item, item_of, items_of, phase_behind, to_come, to_come_in}
+use Rattle.run_events.specs.declared.item.Item.{Item}
+use Rattle.run_events.specs.declared.record.EndCause.TheVariants.{Limit}
+use Rattle.run_events.specs.declared.record.Record.TheVariants.{Lines as LinesRecord, Load as LoadRecord}
+use Rattle.run_events.specs.declared.supply.DmaWord.{DmaWord}
+use Rattle.run_events.specs.declared.supply.Need.TheVariants.{Load}
+use Rattle.run_events.specs.declared.supply.Supplied.{Supplied}
+use Rattle.any_machine.specs.Log.{plain_item, word_record}
+use Rattle.any_machine.specs.Recorder.{end_item}
+use Rattle.board_model.specs.TheBoard.{board}
+use Rattle.hart_model.specs.State.{State}
+use Rattle.hart_model.specs.Step.{needs, touch}
+use Rattle.machine_model.specs.Board as model
+use Rattle.machine_model.specs.Board.{BoardState}
+use Rattle.machine_model.specs.Script.{Script}
+use Rattle.machine_model.proofs.BoardLaws.{words_are_held, way_at_step, way_after_load}
+use Rattle.rv_devices.specs.Stands.{Stands}
+use Rattle.rv_devices.specs.declared.board.Board.{Board}
+use Rattle.rv_machine.specs.ToCome.{Awaits, coming}
+use Rattle.rv_machine.specs.declared.phase.Phase.TheVariants.{Between, Words, Lines, Need, Given, Ending, Over}
+use Rattle.rv_machine.proofs.ComingLaws.{coming-limit, coming-begin, coming-word, coming-words, coming-same, coming-told, coming-load}
 
--- the end is given, where it is all that is to come
-ends : (item : Item) (cause : EndCause) (before after : Recorder) → to_come before ≡ end_item before.cpu.step cause ∷ [] → item ≡ end_item before.cpu.step cause → IsRecord item.item → after.phase ≡ Over → after.cpu ≡ before.cpu → IsNext item before after
-ends item cause before after all is fits over same =
-    let nothing : to_come after ≡ [] = ap (λ p. to_come_in p after.left after.cpu) over in
-    record {
-      next = all ∙ ap (λ i. i ∷ []) (sym is) ∙ ap (λ l. item ∷ l) (sym nothing);
-      is_record = fits;
-      at = ap (λ i. number i.item) is ∙ ap (λ s. s.step) (sym same);
-    }
+-- the next item of these is this one, and then a hart and a board await the rest
+pub record Follows (item : Item) (items : List Item) (After : List Item → Type 0) : Type 0 where
+  pub rest : List Item
+  pub are : items ≡ item ∷ rest
+  pub after : After rest
 
-pub ends_at_limit : (item : Item) (before after : Recorder) → before.phase ≡ Running → before.left ≡ 0 → item ≡ end_item before.cpu.step Limit → IsRecord item.item → after.phase ≡ Over → after.cpu ≡ before.cpu → IsNext item before after
-ends_at_limit item before after running none is fits over same =
-    ends item Limit before after (ap (λ p. to_come_in p before.left before.cpu) running ∙ ap (λ n. items (run_from n before.cpu)) none ∙ items-limit before.cpu) is fits over same
+module _ (left lines : ℕ) (s : State) (b after : Board) (items : List Item) where
+  -- a step begins
+  pub begun : ((script : Script) (state : BoardState) → Stands script s.step [] state b → Stands script (s.step + 1) (model.words_before s.step state) (model.at_step s.step state) after)
+      → Awaits Between (suc left) lines s b items → Awaits Words left lines s after items
+  begun goes is = record {
+    script = is.script;
+    state = model.at_step s.step is.state;
+    words = model.words_before s.step is.state;
+    stands = goes is.script is.state (subst (λ words. Stands is.script s.step words is.state b) is.due (subst (λ n. Stands is.script n is.words is.state b) (omega arith) is.stands));
+    way = way_at_step (length s.ram) s.step is.state is.way;
+    held = words_are_held (length s.ram) s.step is.state is.way;
+    due = tt;
+    are = is.are ∙ coming-begin is.script left s.step lines s is.state is.words;
+  }
 
-pub ends_stuck : (item : Item) (fewer : ℕ) (before after : Recorder) → before.phase ≡ Running → before.left ≡ suc fewer → step_from before.cpu ≡ None → item ≡ end_item before.cpu.step Stuck → IsRecord item.item → after.phase ≡ Over → after.cpu ≡ before.cpu → IsNext item before after
-ends_stuck item fewer before after running more none is fits over same =
-    ends item Stuck before after (ap (λ p. to_come_in p before.left before.cpu) running ∙ ap (λ n. items (run_from n before.cpu)) more ∙ items-stuck fewer before.cpu none) is fits over same
+  -- no word is left
+  pub written : ((script : Script) (n : ℕ) (words : List DmaWord) (state : BoardState) → Stands script n words state b → None ≡ slice_get words 0)
+      → ((script : Script) (n : ℕ) (words : List DmaWord) (state : BoardState) → Stands script n words state b → Stands script n (drop 1 words) state after)
+      → Awaits Words left lines s b items → Awaits Lines left lines s after items
+  written none goes is = by is.words refl
+    where
+      by : (words : List DmaWord) → is.words ≡ words → Awaits Lines left lines s after items
+      by [] same = record {
+        script = is.script;
+        state = is.state;
+        words = [];
+        stands = subst (λ words. Stands is.script (s.step + 1) words is.state after) (ap (λ words. drop 1 words) same) (goes is.script (s.step + 1) is.words is.state is.stands);
+        way = is.way;
+        held = tt;
+        due = refl;
+        are = is.are ∙ ap (coming is.script Words left s.step lines s is.state) same ∙ coming-words is.script left s.step lines s is.state;
+      }
+      by (word ∷ words) same = let no : None ≡ Some word = none is.script (s.step + 1) is.words is.state is.stands ∙ ap (λ l. slice_get l 0) same in absurd (cc)
 
--- a step was done, with this event
-pub record Stepped (event : Event) (before after : Recorder) : Type 0 where
-  pub running : before.phase ≡ Running
-  pub left : before.left ≡ suc after.left
-  pub step : step_from before.cpu ≡ Some (event, after.cpu)
-  pub phase : after.phase ≡ phase_behind (power_status event)
+  -- the lines are those that are held
+  pub unchanged : (bits : ℕ) → ((script : Script) (n : ℕ) (words : List DmaWord) (state : BoardState) → Stands script (n + 1) words state b → bits ≡ model.board_lines script n state) → bits ≡ lines
+      → Awaits Lines left lines s b items → Awaits Need left lines s b items
+  unchanged bits are same is = record {
+    script = is.script;
+    state = is.state;
+    words = is.words;
+    stands = is.stands;
+    way = is.way;
+    held = is.held;
+    due = is.due;
+    are = is.are ∙ ap (coming is.script Lines left s.step lines s is.state) is.due ∙ coming-same is.script left s.step lines bits s is.state (are is.script s.step is.words is.state is.stands) same ∙ ap (coming is.script Need left s.step lines s is.state) (sym is.due);
+  }
 
-goes : (event : Event) (before after : Recorder) (o : Option ℕ) → power_status event ≡ o → Stepped event before after → items (run_from (suc after.left) before.cpu) ≡ items_behind event ++ to_come_in (phase_behind o) after.left after.cpu
-goes event before after (Some status) is was = items-power after.left before.cpu after.cpu event status was.step is
-goes event before after None is was = items-goes after.left before.cpu after.cpu event was.step is
+  -- or they are told
+  pub told : (bits : ℕ) → ((script : Script) (n : ℕ) (words : List DmaWord) (state : BoardState) → Stands script (n + 1) words state b → bits ≡ model.board_lines script n state) → (bits ≡ lines → ⊥)
+      → Awaits Lines left lines s b items → Follows (plain_item (LinesRecord s.step bits)) items (λ rest. Awaits Need left bits s b rest)
+  told bits are other is = record {
+    rest = coming is.script Need left s.step bits s is.state [];
+    are = is.are ∙ ap (coming is.script Lines left s.step lines s is.state) is.due ∙ coming-told is.script left s.step lines bits s is.state (are is.script s.step is.words is.state is.stands) other;
+    after = record {
+      script = is.script;
+      state = is.state;
+      words = [];
+      stands = subst (λ words. Stands is.script (s.step + 1) words is.state b) is.due is.stands;
+      way = is.way;
+      held = tt;
+      due = refl;
+      are = refl;
+    };
+  }
 
-come : (event : Event) (before after : Recorder) → Stepped event before after → to_come before ≡ items_behind event ++ to_come after
-come event before after was =
-    ap (λ p. to_come_in p before.left before.cpu) was.running ∙ ap (λ n. items (run_from n before.cpu)) was.left ∙ goes event before after (power_status event) refl was
-    ∙ ap (λ p. items_behind event ++ to_come_in p after.left after.cpu) (sym was.phase)
+  -- a device register gives the step what it needs
+  pub loaded : (given : Supplied) (address width : ℕ) → needs s lines ≡ Load address width
+      → ((script : Script) (n : ℕ) (words : List DmaWord) (state : BoardState) → Stands script (n + 1) words state b → given ≡ model.given_at script n state address)
+      → ((script : Script) (n : ℕ) (words : List DmaWord) (state : BoardState) → Stands script (n + 1) words state b → Stands script (n + 1) words (model.after_load script n state address) after)
+      → Awaits Need left lines s b items → Follows (plain_item (LoadRecord s.step given.value given.mark)) items (λ rest. Awaits (Given given) left lines s after rest)
+  loaded given address width needed value goes is =
+      let same = value is.script s.step is.words is.state is.stands in
+      let state = model.after_load is.script s.step is.state address in
+      record {
+        rest = coming is.script (Given given) left s.step lines s state [];
+        are =
+            is.are ∙ ap (coming is.script Need left s.step lines s is.state) is.due
+            ∙ subst (λ (g : Supplied). coming is.script Need left s.step lines s is.state [] ≡ plain_item (LoadRecord s.step g.value g.mark) ∷ coming is.script (Given g) left s.step lines s state []) (sym same)
+            (coming-load is.script left s.step lines address width s is.state needed);
+        after = record {
+          script = is.script;
+          state = state;
+          words = [];
+          stands = subst (λ words. Stands is.script (s.step + 1) words state after) is.due (goes is.script s.step is.words is.state is.stands);
+          way = way_after_load (length s.ram) is.script s.step is.state address is.way;
+          held = tt;
+          due = refl;
+          are = refl;
+        };
+      }
 
-under_way : (phase : Phase) (o : Option ℕ) → phase ≡ phase_behind o → IsUnderWay phase
-under_way phase (Some status) is = subst IsUnderWay (sym is) tt
-under_way phase None is = subst IsUnderWay (sym is) tt
-
--- a step with nothing behind it has a number below a multiple of 256
-nothing_at : (sent : Bool) (m : ℕ) (item : Item) → [] ≡ cond (sent || m == 0) (item ∷ []) [] → 0 < m
-nothing_at true m item is = cc
-nothing_at false zero item is = cc
-nothing_at false (suc m) item is = omega arith
-
--- the one item behind a step is the one that is given
-item_given : (b : Bool) (item given : Item) → given ∷ [] ≡ cond b (item ∷ []) [] → given ≡ item
-item_given true item given is = cc
-item_given false item given is = cc
-
-pub turned : (event : Event) (given : Option Given) (before after : Recorder) → Stepped event before after → items_of given ≡ items_behind event → IfSome given (λ g. IsRecord g.item) → Turned given before after
-turned event (Some given) before after was is fits =
-    let step = step_from-IsStep before.cpu event after.cpu was.step in
-    let numbered : after.cpu.step ≡ step_of event + 1 = step.counted ∙ ap (λ n. n + 1) (sym step.numbered) in
-    record {
-      next = come event before after was ∙ ap (λ l. l ++ to_come after) (sym is);
-      is_record = fits;
-      at = ap (λ i. number i.item) (item_given (is_some (serial_byte event) || (step_of event + 1) % 256 == 0) _ (item_of given) is) ∙ sym numbered;
-    }
-turned event None before after was is fits =
-    let step = step_from-IsStep before.cpu event after.cpu was.step in
-    let numbered : after.cpu.step ≡ step_of event + 1 = step.counted ∙ ap (λ n. n + 1) (sym step.numbered) in
-    record {
-      same = come event before after was ∙ ap (λ l. l ++ to_come after) (sym is);
-      under_way = under_way after.phase (power_status event) was.phase;
-      counted = step.counted;
-      between = subst (λ n. 0 < n % 256) (sym numbered) (nothing_at (is_some (serial_byte event)) ((step_of event + 1) % 256) _ is);
-    }
-
--- after some turns that gave nothing
-pub record IsOnTheWay (turns : ℕ) (before now : Recorder) : Type 0 where
-  pub same : to_come before ≡ to_come now
-  pub under_way : IsUnderWay now.phase
-  pub counted : now.cpu.step ≡ before.cpu.step + turns
-  pub between : 0 < turns → 0 < now.cpu.step % 256
+  -- no step is left
+  pub limited : Awaits Between 0 lines s b items → items ≡ end_item s.step Limit ∷ []
+  limited is = is.are ∙ coming-limit is.script s.step lines s is.state is.words

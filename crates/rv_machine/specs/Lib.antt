@@ -1,2 +1,2 @@
-pub mod Recorder
-pub mod Given
+pub mod Phase
+pub mod ToCome

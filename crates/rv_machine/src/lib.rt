@@ -1,10 +1,10 @@
-//! The recorder: a guest's run, handed out record by record.
+//! The recorder: a guest beside its board, whose run is handed out record by record.
 #![tactic(auto)]
 
-mod board;
 mod machine;
 mod phase;
 #[cfg(test)]
 mod tests;
+mod told;
 
 pub use machine::{Advance, Machine};

@@ -1,23 +1,31 @@
 //! The recorder.
-ghost use Rattle.std.specs.Prelude.{◌≡◌, ◌+◌, ◌*◌, ◌%◌, ◌<◌, ◌≤◌, IfOk, length, map};
-ghost use Rattle.run_events.specs.Record.{IsRecord};
+ghost use Rattle.std.specs.Prelude.{◌≡◌, ◌+◌, ◌%◌, ◌*◌, ◌^◌, ◌<◌, ◌≤◌, ℕ, false, true, List, IfOk, length, map, vec_len};
+ghost use Rattle.any_machine.specs.Log.{items};
+ghost use Rattle.any_machine.specs.Machine.{is_load};
+ghost use Rattle.any_machine.specs.Recorder.{end_item};
+ghost use Rattle.board_model.specs.Guest.{run, started};
+ghost use Rattle.board_model.specs.TheBoard.{after_access, after_event};
+ghost use Rattle.hart_model.proofs.DeviceLaws.{AtRegister, IsAtRegister};
+ghost use Rattle.hart_model.specs.Fetch.{grain};
+ghost use Rattle.hart_model.specs.Step.{needs};
+ghost use Rattle.machine_model.specs.Board.{BoardState, IsPlayable};
 ghost use Rattle.machine_model.specs.Image.{IsLoadable};
-ghost use Rattle.machine_model.specs.State.{started};
-ghost use Rattle.machine_model.specs.Run.{log, output, run_from};
-ghost use Rattle.machine_model.specs.Items.{bytes_of, items};
-ghost use Rattle.rv_machine.specs.Recorder.{IsNext, IsUnderWay, Turned, end_item, item_of, to_come};
-ghost use Rattle.rv_machine.specs.declared.phase.Phase.TheVariants.{Running, Over};
-ghost use Rattle.rv_machine.specs.Given.{Gives};
+ghost use Rattle.machine_model.specs.Script.{Script as Outside};
+ghost use Rattle.run_events.specs.declared.supply.DmaWord.{DmaWord};
+ghost use Rattle.rv_devices.specs.Stands.{Stands, steps_begun, words_due};
+ghost use Rattle.rv_machine.specs.Phase.{Supplies, awaits, inside, is_over, sends};
+ghost use Rattle.rv_machine.specs.declared.phase.Phase.TheVariants.{Between, Over, Words, Lines, Need as Asks};
 
-use crate::board::{Given, given_behind, phase_after};
 use crate::phase::Phase;
+use crate::told::{after_power, plain, reach_item, word_item};
 use elf_image::Image;
-use first_cpu::Cpu;
+use in_script::Script;
 use memory_map::NoMemory;
-use run_events::{EndCause, Record};
+use run_events::{Access, EndCause, Event, Item, Need, Record, Supplied};
+use rv_cpu::Cpu;
+use rv_devices::Board;
 use rv_memory::Ram;
 use std::alloc::Global;
-use std::marker::Model;
 
 /// What the next call gave.
 #[derive(Clone, Copy, Debug, PartialEq, Eq)]
@@ -28,26 +36,28 @@ pub enum Advance {
     Ended,
 }
 
-/// A guest that is run on from record to record. Contracts see what is still to come of its run.
+/// A guest beside its board, that is run on from record to record. Contracts say by `ToCome` which items are still to come.
 #[derive(Drop)]
 pub struct Machine {
     cpu: Cpu,
+    board: Board,
     left: u32,
+    lines: u8,
     phase: Phase,
+    ghost begun: { steps_begun board ≡ cpu.step + inside phase },
+    ghost drained: { words_due board ≤ sends phase },
+    ghost room: { cpu.step + left + inside phase ≤ 1000000000 },
+    ghost given: { awaits phase (is_load (needs cpu lines)) ≡ true },
+    ghost size: { length cpu.ram ≤ 2 ^ 24 },
 }
 
-impl Model for Machine {
-    ghost use Rattle.std.specs.Prelude.{◌+◌, ◌≤◌};
-    ghost use Rattle.rv_machine.specs.Recorder.{Recorder, recorder_code};
-
-    ghost Value = { Recorder };
-
-    ghost coded = { recorder_code };
-
-    ghost view = { λ m. record { cpu = m.cpu; left = m.left; phase = m.phase } };
-
-    ghost invariant = { λ m. m.cpu.step + m.left ≤ 1000000000 };
-}
+// An event to be written over.
+const NO_EVENT: Event = Event::Irq {
+    step: 0,
+    pc: 0,
+    cause: 0,
+    next: 0,
+};
 
 // The hart of a guest before its first step, over the RAM that its image fills.
 #[tactic(auto, unfolding(machine_model::specs::Image::ram_at_start))]
@@ -55,8 +65,9 @@ fn start(alloc: Global, image: &Image, ram_kib: u32) -> Result<Cpu, NoMemory>
     requires least { 64 ≤ ram_kib }
     requires most { ram_kib ≤ 16384 }
     requires loadable { IsLoadable (1024 * ram_kib) image.now.segments }
-    requires aligned { image.now.entry % 4 ≡ 0 }
-    ensures { IfOk result (λ cpu. cpu ≡ started image.now ram_kib) }
+    requires aligned { image.now.entry % grain ≡ 0 }
+    ensures start { IfOk result (λ cpu. cpu ≡ started image.now ram_kib) }
+    ensures size { IfOk result (λ cpu. length cpu.ram ≡ 1024 * ram_kib) }
 {
     let mut ram = Ram::new(alloc, ram_kib)?;
     image.load_into(&mut ram);
@@ -64,35 +75,47 @@ fn start(alloc: Global, image: &Image, ram_kib: u32) -> Result<Cpu, NoMemory>
 }
 
 impl Machine {
-    /// The guest of an image before its first step, which will be run for at most this many steps. It is the only call
-    /// that takes memory.
-    pub fn new(alloc: Global, image: &Image, ram_kib: u32, limit: u32) -> Result<Machine, NoMemory>
+    ghost use Rattle.rv_machine.specs.ToCome.{Answers, Falls, ToCome, Turned};
+
+    /// The guest of an image at step 0, beside the board of this script and this disk file, which will be run for at most
+    /// `limit` steps. RAM has 64 to 16,384 KiB, the disk file at most 16 MiB. It is the only call that takes memory.
+    pub fn new(
+        alloc: Global,
+        image: &Image,
+        script: Script,
+        disk: Vec<u8>,
+        ram_kib: u32,
+        limit: u32,
+    ) -> Result<Machine, NoMemory>
         requires least { 64 ≤ ram_kib }
         requires most { ram_kib ≤ 16384 }
         requires limit { limit ≤ 1000000000 }
         requires loadable { IsLoadable (1024 * ram_kib) image.now.segments }
-        requires aligned { image.now.entry % 4 ≡ 0 }
-        ensures fresh { IfOk result (λ machine. machine ≡ record { cpu = started image.now ram_kib; left = limit; phase = Phase.Running }) }
-        ensures items { IfOk result (λ machine. to_come machine ≡ items (run_from limit (started image.now ram_kib))) }
-        ensures log { IfOk result (λ machine. map (λ item. item.item) (to_come machine) ≡ log (run_from limit (started image.now ram_kib))) }
-        ensures output { IfOk result (λ machine. bytes_of (to_come machine) ≡ output (run_from limit (started image.now ram_kib)).events) }
+        requires aligned { image.now.entry % grain ≡ 0 }
+        requires script { IsPlayable script }
+        requires disk { vec_len disk ≤ 2 ^ 24 }
+        ensures { IfOk result (λ machine. ToCome machine (items (run image.now script disk.items ram_kib limit))) }
     {
         let cpu = start(alloc, image, ram_kib)?;
+        let board = Board::new(alloc, script, disk)?;
         Ok(Machine {
             cpu,
+            board,
             left: limit,
-            phase: Phase::Running,
+            lines: 0,
+            phase: Phase::Between,
         })
     }
 
     /// Runs on to the next record and no further: at most 256 steps. It takes no memory.
     pub fn advance(&mut self) -> Advance
-        ensures { Gives result self.old self.new }
+        ensures next { (items : List Item) → ToCome self.old items → Answers result items self.new }
+        ensures less { Falls result self.old self.new }
     {
         match self.phase {
             Phase::Over => Advance::Ended,
             _ => {
-                let given = self.next_given();
+                let given = self.next_item();
                 Advance::Item {
                     item: given.item,
                     byte: given.byte,
@@ -101,63 +124,173 @@ impl Machine {
         }
     }
 
-    // Runs on to the next record, at the latest behind a step whose number plus 1 is a multiple of 256.
-    fn next_given(&mut self) -> Given
-        requires { IsUnderWay self.old.phase }
-        ensures { IsNext (item_of result) self.old self.new }
+    // Runs on to the next item, which comes at the latest after a step whose number plus 1 is a multiple of 256.
+    fn next_item(&mut self) -> Item
+        requires { is_over self.old.phase ≡ false }
+        ensures { Turned (Some result) self.old self.new }
     {
         'turns: for _turn in 0..256 - self.cpu.steps() % 256 {
-            if let Some(given) = self.turn() {
-                return given;
+            if let Some(item) = self.turn() {
+                return item;
             }
         }
         unreachable!()
     }
 
-    // Does the next step, or gives the end that is due.
-    fn turn(&mut self) -> Option<Given>
-        requires { IsUnderWay self.old.phase }
+    // Goes on to the next item, or to the end of the step that is to be done.
+    fn turn(&mut self) -> Option<Item>
+        requires { is_over self.old.phase ≡ false }
         ensures { Turned result self.old self.new }
     {
         match self.phase {
-            Phase::Running => self.run_step(),
+            Phase::Between => self.begin(),
+            Phase::Words => self.write_words(),
+            Phase::Lines => self.tell_lines(),
+            Phase::Need => self.ask_need(),
+            Phase::Given { supplied } => self.finish(Some(supplied)),
             Phase::Ending { cause } => Some(self.end(cause)),
             Phase::Over => unreachable!(),
         }
     }
 
-    // Does the next step of a run that has not ended yet, or ends it.
-    fn run_step(&mut self) -> Option<Given>
-        requires { self.old.phase ≡ Running }
+    // Begins the next step, if one is left.
+    fn begin(&mut self) -> Option<Item>
+        requires { self.old.phase ≡ Between }
         ensures { Turned result self.old self.new }
     {
         if self.left == 0 {
             return Some(self.end(EndCause::Limit));
         }
-        if !self.cpu.can_step(0) {
-            return Some(self.end(EndCause::Stuck));
-        }
-        let event = self.cpu.step(0, None);
+        self.board.begin(self.cpu.steps());
         self.left -= 1;
-        self.phase = phase_after(&event);
-        given_behind(&event)
+        self.phase = Phase::Words;
+        self.write_words()
+    }
+
+    // Writes the next word of the disk to RAM, if one is due.
+    fn write_words(&mut self) -> Option<Item>
+        requires { self.old.phase ≡ Words }
+        ensures { Turned result self.old self.new }
+    {
+        match self.board.due() {
+            Some(word) => {
+                // the board has no word for another place
+                if self.cpu.holds(word.address) {
+                    let _shown = self.cpu.dma(word.address, word.word, word.mark);
+                }
+                Some(word_item(self.cpu.steps(), &word))
+            }
+            None => {
+                self.phase = Phase::Lines;
+                self.tell_lines()
+            }
+        }
+    }
+
+    // Looks at the lines, and tells them where they have changed.
+    fn tell_lines(&mut self) -> Option<Item>
+        requires { self.old.phase ≡ Lines }
+        ensures { Turned result self.old self.new }
+    {
+        let bits = self.board.lines();
+        self.phase = Phase::Need;
+        if bits == self.lines {
+            self.ask_need()
+        } else {
+            self.lines = bits;
+            Some(plain(Record::Lines {
+                step: self.cpu.steps(),
+                bits,
+            }))
+        }
+    }
+
+    // Does the step, or takes of the board what it has to be given.
+    fn ask_need(&mut self) -> Option<Item>
+        requires { self.old.phase ≡ Asks }
+        ensures { Turned result self.old self.new }
+    {
+        match self.cpu.next_need(self.lines) {
+            Need::Load { address, .. } => {
+                let supplied = self.board.load(address);
+                self.phase = Phase::Given { supplied };
+                Some(plain(Record::Load {
+                    step: self.cpu.steps(),
+                    value: supplied.value,
+                    mark: supplied.mark,
+                }))
+            }
+            Need::Nothing => self.finish(None),
+        }
+    }
+
+    // Does the step with what it was given, and tells that it is done where that is told.
+    fn finish(&mut self, supplied: Option<Supplied>) -> Option<Item>
+        requires inside { inside self.old.phase ≡ 1 }
+        requires quiet { sends self.old.phase ≡ 0 }
+        requires given { Supplies self.old.phase supplied (needs self.old.cpu self.old.lines) }
+        ensures { Turned result self.old self.new }
+    {
+        let step = self.cpu.steps();
+        let event = self.cpu.step(self.lines, supplied);
+        store_outside(&mut self.board, &event, self.cpu.ram());
+        self.phase = after_power(&event);
+        reach_item(step, &event)
     }
 
     // Gives the end.
-    fn end(&mut self, cause: EndCause) -> Given
-        ensures given { item_of result ≡ end_item self.old.cpu.step cause }
-        ensures record { IsRecord result.item }
+    fn end(&mut self, cause: EndCause) -> Item
+        requires outside { inside self.old.phase ≡ 0 }
+        requires quiet { sends self.old.phase ≡ 0 }
+        ensures item { result ≡ end_item self.old.cpu.step cause }
         ensures over { self.new.phase ≡ Over }
-        ensures same { self.new.cpu ≡ self.old.cpu }
+        ensures same { self.new.board ≡ self.old.board }
+        ensures hart { self.new.cpu ≡ self.old.cpu }
     {
         self.phase = Phase::Over;
-        Given {
-            item: Record::End {
-                step: self.cpu.steps(),
-                cause,
-            },
-            byte: None,
+        plain(Record::End {
+            step: self.cpu.steps(),
+            cause,
+        })
+    }
+}
+
+// What a step's access does to the devices.
+fn store_access(board: &mut Board, access: &Access, ram: &Ram)
+    requires begun { 1 ≤ steps_begun board.old }
+    requires at { AtRegister access.now }
+    requires ram { length ram.now ≤ 2 ^ 24 }
+    ensures stands { (script : Outside) (step : ℕ) (words : List DmaWord) (state : BoardState) → Stands script (step + 1) words state board.old → Stands script (step + 1) words (after_access script step ram.now state access.now) board.new }
+    ensures begun { steps_begun board.new ≡ steps_begun board.old }
+    ensures left { words_due board.new ≡ words_due board.old }
+{
+    match *access {
+        Access::Store {
+            address,
+            value,
+            device,
+            ..
+        } => {
+            if device {
+                let _effect = board.store(address, value, ram);
+            }
         }
+        Access::Quiet | Access::Load { .. } | Access::Swap { .. } => {}
+    }
+}
+
+// What a step's event does to them.
+fn store_outside(board: &mut Board, event: &Event, ram: &Ram)
+    requires begun { 1 ≤ steps_begun board.old }
+    requires at { IsAtRegister event.now }
+    requires ram { length ram.now ≤ 2 ^ 24 }
+    ensures stands { (script : Outside) (step : ℕ) (words : List DmaWord) (state : BoardState) → Stands script (step + 1) words state board.old → Stands script (step + 1) words (after_event script step ram.now state event.now) board.new }
+    ensures begun { steps_begun board.new ≡ steps_begun board.old }
+    ensures left { words_due board.new ≡ words_due board.old }
+{
+    match event {
+        Event::Exec { access, .. } => store_access(board, access, ram),
+        Event::Dma { .. } | Event::Irq { .. } | Event::Trap { .. } => {}
     }
 }
 

@@ -1,49 +1,139 @@
-//! The records of short guests.
+//! The items of small guests.
 use crate::{Advance, Machine};
 use elf_image::read_flat;
+use in_script::{Bytes, Entry, Script, What};
 use memory_map::NoMemory;
-use run_events::{EndCause, Record};
+use run_events::{EndCause, Item, Record};
 use std::alloc::Global;
 use std::process::Abort;
 
-const GUEST: [u8; 20] = [
-    0x37, 0x05, 0x00, 0x10, 0x93, 0x05, 0x80, 0x04, 0x23, 0x00, 0xB5, 0x00, 0x37, 0x06, 0x10, 0x10,
-    0x23, 0x20, 0x06, 0x00,
+// It waits for the timer's interrupt, whose handler ends the run.
+const TIMED: [u32; 18] = [
+    0x800002b7, 0x04028293, 0x30529073, 0x08000313, 0x30431073, 0x020043b7, 0x00500313, 0x0003a223,
+    0x0063a023, 0x30046073, 0x0000006f, 0, 0, 0, 0, 0, 0x10100637, 0x00062023,
 ];
 
-// The first three answers of the recorder of a guest.
-fn answers(rt: &impl Abort, alloc: Global, file: &[u8]) -> Result<[Advance; 3], NoMemory> {
-    assert!(rt; file.len() <= 20);
-    let image = read_flat(alloc, Vec::from_slice(alloc, file)?)?;
-    let mut machine = Machine::new(alloc, &image, 64, 1000)?;
-    Ok([machine.advance(), machine.advance(), machine.advance()])
+// It masks its interrupts, and sends what mip shows at step 3.
+const MASKING: [u32; 8] = [
+    0x100002b7, 0x00100313, 0x0062a423, 0x344023f3, 0x0053d393, 0x00728023, 0x10100637, 0x00062023,
+];
+
+// It reads sector 0 to 0x80000200, and sends its first byte.
+const READING: [u32; 13] = [
+    0x100012b7, 0x80000337, 0x20030313, 0x0062a223, 0x00100393, 0x0072a423, 0x00c2ae03, 0xfe7e0ee3,
+    0x00032e83, 0x100002b7, 0x01d28023, 0x10100637, 0x00062023,
+];
+
+fn plain(item: Record) -> Item {
+    Item { item, byte: None }
 }
 
-fn end(step: u32, cause: EndCause) -> Advance {
-    Advance::Item {
-        item: Record::End { step, cause },
-        byte: None,
+fn sent(step: u32, byte: u8) -> Item {
+    Item {
+        item: Record::Reach { step },
+        byte: Some(byte),
     }
 }
 
-#[test]
-fn a_guest_is_recorded_to_its_end(rt: HostRuntime) -> Result<(), NoMemory> {
-    let reach = Advance::Item {
-        item: Record::Reach { step: 3 },
-        byte: Some(0x48),
+fn lines(step: u32, bits: u8) -> Item {
+    plain(Record::Lines { step, bits })
+}
+
+fn load(step: u32, value: u32) -> Item {
+    plain(Record::Load {
+        step,
+        value,
+        mark: 0,
+    })
+}
+
+fn power(step: u32) -> Item {
+    plain(Record::End {
+        step,
+        cause: EndCause::Power { status: 0 },
+    })
+}
+
+// The recorder of a guest of these words, at whose step `at` this arrives.
+fn recorder(
+    rt: &impl Abort,
+    alloc: Global,
+    words: &[u32],
+    at: u32,
+    what: What,
+    disk: Vec<u8>,
+) -> Result<Machine, NoMemory> {
+    assert!(rt; words.len() <= 18 && disk.len() <= 512);
+    let mut file = Vec::new(alloc);
+    for word in words {
+        for byte in word.to_le_bytes() {
+            file.push(byte)?;
+        }
+    }
+    assert!(rt; file.len() <= 1024);
+    let image = read_flat(alloc, file)?;
+    let entries = vec![in alloc; Entry { at, what }]?;
+    let script = Script {
+        clock: 1000,
+        sectors: Vec::new(alloc),
+        entries,
     };
-    let power = end(5, EndCause::Power { status: 0 });
-    let stuck = end(0, EndCause::Stuck);
-    let ended = Advance::Ended;
-    assert_eq!(rt;
-        answers(&rt, rt.alloc(), &GUEST)?,
-        [reach, power, ended],
-        "a byte, and power"
-    );
-    assert_eq!(rt;
-        answers(&rt, rt.alloc(), &[])?,
-        [stuck, ended, ended],
-        "an empty file"
-    );
+    Machine::new(alloc, &image, script, disk, 64, 1000)
+}
+
+// The next answers are these items.
+fn expect(rt: &impl Abort, machine: &mut Machine, items: &[Item]) {
+    for expected in items {
+        let Item { item, byte } = *expected;
+        assert_eq!(rt; machine.advance(), Advance::Item { item, byte });
+    }
+}
+
+// A serial byte that is not marked.
+fn letter(alloc: Global) -> Result<What, NoMemory> {
+    let bytes = Bytes::new(vec![in alloc; 0x61]?);
+    Ok(What::Serial { bytes, mark: 0 })
+}
+
+#[test]
+fn a_timer_interrupt_is_told_by_its_line(rt: HostRuntime) -> Result<(), NoMemory> {
+    let alloc = rt.alloc();
+    let tick = What::Tick { count: 5 };
+    let mut timed = recorder(&rt, alloc, &TIMED, 10, tick, Vec::new(alloc))?;
+    expect(&rt, &mut timed, &[lines(10, 1), power(13)]);
+    assert_eq!(rt; timed.advance(), Advance::Ended);
+    assert_eq!(rt; timed.advance(), Advance::Ended);
+    Ok(())
+}
+
+#[test]
+fn lines_are_told_while_they_are_masked(rt: HostRuntime) -> Result<(), NoMemory> {
+    let alloc = rt.alloc();
+    let what = letter(alloc)?;
+    let mut early = recorder(&rt, alloc, &MASKING, 3, what, Vec::new(alloc))?;
+    expect(&rt, &mut early, &[lines(3, 2), sent(6, 0x40), power(8)]);
+    let what = letter(alloc)?;
+    let mut late = recorder(&rt, alloc, &MASKING, 4, what, Vec::new(alloc))?;
+    expect(&rt, &mut late, &[lines(4, 2), sent(6, 0), power(8)]);
+    Ok(())
+}
+
+#[test]
+fn the_words_of_a_sector_are_told_before_their_step(rt: HostRuntime) -> Result<(), NoMemory> {
+    let alloc = rt.alloc();
+    let disk = vec![in alloc; 0x51]?;
+    let latency = What::Latency { steps: 4 };
+    let mut reading = recorder(&rt, alloc, &READING, 0, latency, disk)?;
+    expect(&rt, &mut reading, &[load(6, 1), load(8, 1)]);
+    for place in 0..128u32 {
+        let word = plain(Record::Dma {
+            step: 9,
+            address: 0x80000200 + 4 * place,
+            word: if place == 0 { 0x51 } else { 0 },
+            mark: 0,
+        });
+        expect(&rt, &mut reading, &[word]);
+    }
+    expect(&rt, &mut reading, &[load(10, 2), sent(15, 0x51), power(17)]);
     Ok(())
 }

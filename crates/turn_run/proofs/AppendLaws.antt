@@ -19,7 +19,7 @@ use Rattle.output_gate.specs.Gate.{GateState, is_full, is_withheld, with_issue}
 use Rattle.turn_run.specs.declared.ending.Ending.{Ending}
 use Rattle.turn_run.specs.declared.parts.Parts.{Parts}
 use Rattle.turn_run.specs.declared.source.Source.{Source}
-use Rattle.turn_run.specs.Recording.{Recording}
+use Rattle.any_machine.specs.Recording.{Recording}
 use Rattle.turn_run.specs.Following.{Following}
 use Rattle.turn_run.specs.Course.{Course, IsCourse, log_of, plan_of}
 use Rattle.turn_run.specs.Endings.{end_at, end_back, end_in}

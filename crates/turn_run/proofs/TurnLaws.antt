@@ -18,7 +18,7 @@ use Rattle.gate_core.proofs.CoreLaws.{event_IsSound}
 use Rattle.output_gate.specs.Gate.{GateState, count_below, with_failure, with_release}
 use Rattle.output_gate.proofs.GateLaws.{count_below-within}
 use Rattle.turn_run.specs.declared.parts.Parts.{Parts}
-use Rattle.turn_run.specs.Recording.{Recording}
+use Rattle.any_machine.specs.Recording.{Recording}
 use Rattle.turn_run.specs.Following.{Following}
 use Rattle.turn_run.specs.Course.{Course, IsCourse, Agrees, log_of, plan_of}
 use Rattle.turn_run.specs.Gates.{Gates, IsLimit, least_approved, refusals, withheld_from}

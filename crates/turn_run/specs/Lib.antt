@@ -2,8 +2,6 @@ pub mod Course
 pub mod Endings
 pub mod Following
 pub mod Gates
-pub mod Patterns
-pub mod Recording
 pub mod Replicas
 pub mod Runs
 pub mod Sources

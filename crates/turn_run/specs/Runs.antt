@@ -11,7 +11,7 @@ use Rattle.turn_run.specs.declared.parts.Recorded.{Recorded}
 use Rattle.turn_run.specs.declared.parts.Recorded.TheVariants.{Appended, Closed, Waits, Over}
 use Rattle.turn_run.specs.declared.reading.Turn.{Turn}
 use Rattle.turn_run.specs.declared.reading.Turn.TheVariants as turn
-use Rattle.turn_run.specs.Recording.{Recording}
+use Rattle.any_machine.specs.Recording.{Recording}
 use Rattle.turn_run.specs.Following.{Following}
 use Rattle.turn_run.specs.Sources.{StillToCome, items_left}
 use Rattle.turn_run.specs.Course.{Course, log_of, output_of, bytes_in, plan_of, released_bytes}

@@ -3,7 +3,7 @@ use Rattle.std.specs.Prelude.{◌≡◌, ℕ, ◌+◌, List, [], ◌∷◌, ◌+
 use Rattle.std.specs.Option.{option_to_list}
 use Rattle.run_events.specs.declared.item.Item.{Item}
 use Rattle.turn_run.specs.declared.source.Source.{Source}
-use Rattle.turn_run.specs.Recording.{Recording}
+use Rattle.any_machine.specs.Recording.{Recording}
 
 -- the item that waits, and then those that are still to come of the recorder
 pub record StillToCome {M : Type 0} (r : Recording M) (source : Source M) (items : List Item) : Type 0 where

@@ -12,8 +12,9 @@ ghost use Rattle.turn_run.specs.Runs.{HasBroken, HasReleased, IsAt, IsBesides, I
 
 use crate::ending::Ending;
 use crate::source::Source;
-use crate::{Follower, Recorder, Turn, read_next};
+use crate::{Follower, Turn, read_next};
 use after_edge::Sink;
+use any_machine::Recorder;
 use gate_core::Hub;
 use output_gate::{OutputGate, ROOM, SinkFault};
 use run_events::{Item, Record};

@@ -3,7 +3,7 @@ ghost use Rattle.std.specs.Prelude.{◌≡◌, ◌+◌, ◌<◌, ◌≤◌, ◌�
 ghost use Rattle.run_events.specs.declared.item.Item.{Item};
 ghost use Rattle.turn_run.specs.Sources.{IsNextOf, StillToCome, items_left};
 
-use crate::{Advance, Recorder};
+use any_machine::{Advance, Recorder};
 use run_events::Item;
 
 /// The recorder, and the item that it has given and that waits for its place in the log.

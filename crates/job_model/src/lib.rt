@@ -1,0 +1,2 @@
+//! A job: what is run, and what its run comes to.
+#![tactic(auto)]

@@ -1,0 +1,6 @@
+//! What a run is asked for: which analyses look at it, and in which turns it goes on.
+#![tactic(auto)]
+
+mod letter;
+
+pub use letter::Letter;
