@@ -5,7 +5,6 @@ use Rattle.std.proofs.lemmas.List.Prefix.{front_rest}
 use Rattle.list_laws.specs.Prefix.{IsPrefix}
 use Rattle.after_edge.specs.Files.{Contents, IfTold, IsAbsent, Reads, HasAbsentCause}
 use Rattle.after_edge.specs.Reading.{IsLonger}
-use Rattle.after_edge.specs.Fault.{Rose}
 use Rattle.after_edge.proofs.FaultLaws.{Rose-later}
 
 -- these bytes begin the named file; a name without one has only the empty beginning

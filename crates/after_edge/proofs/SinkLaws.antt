@@ -1,5 +1,5 @@
 -- What several puts do to a sink.
-use Rattle.std.proofs.Common.{◌≡◌, ℕ, ◌≤◌, List, [], ◌++◌, subst, append_assoc, append-nil, sym, refl, arith}
+use Rattle.std.proofs.Common.{◌≡◌, ℕ, List, [], ◌++◌, subst, append_assoc, append-nil, sym, arith}
 use Rattle.list_laws.specs.Prefix.{IsPrefix}
 use Rattle.list_laws.proofs.PrefixLaws.{IsPrefix-after, IsPrefix-more, IsPrefix-trans}
 use Rattle.after_edge.specs.Sink.{Telling, Adds, Writes, WritesPart}

@@ -1,9 +1,8 @@
 -- What is made of marks goes by the marks of the machine's places alone.
-use Rattle.std.proofs.Common.{◌≡◌, nat_eq, ℕ, zero, suc, ◌+◌, ◌-◌, ◌*◌, ◌<◌, ◌≤◌, min, max, Bool, true, false, cond, List, [], ◌∷◌, Option, None, Some, refl, ap, ◌∙◌, arith}
+use Rattle.std.proofs.Common.{◌≡◌, nat_eq, ℕ, zero, suc, ◌+◌, ◌-◌, ◌*◌, min, max, Bool, true, false, cond, List, [], ◌∷◌, Option, None, Some, refl, ap, ◌∙◌, arith}
 use Rattle.std.specs.Prelude.{IfSome}
 use Rattle.std.specs.List.{AllByRecursion}
 use Rattle.std.specs.Option.{option_map, option_or}
-use Rattle.list_laws.specs.Least.{least_from}
 use Rattle.list_laws.proofs.LeastLaws.{least_same}
 use Rattle.memory_map.specs.declared.TheConstants.{RAM_START}
 use Rattle.memory_map.specs.Ram.{InRam}
@@ -24,8 +23,7 @@ use Rattle.rv_decode.specs.declared.operations.CsrOp.TheVariants.{Csrrw, Csrrs, 
 use Rattle.rv_decode.specs.declared.operations.RegOp.{RegOp}
 use Rattle.rv_decode.specs.declared.operations.RegOp.TheVariants.{Xor, Sub}
 use Rattle.rv_decode.specs.Listing.{instruction}
-use Rattle.analysis_model.specs.InRam.{IsByteOf}
-use Rattle.analysis_model.specs.Taint.{Place, Register, Scratch, Byte, IsPlace, Sources, Given, From, unmarked, register, bytes_from, Writes, no_writes, operands, loaded, writes_bytes, old_bytes, atomic_writes, scratch_writes, csr_writes, writes_by, writes_as, writes_of, sources_in, is_marked, union, union_of, mark_of, mark_or, bad_jump, is_marked_jump, jump, leaked, most_checked, leak, taint_by}
+use Rattle.analysis_model.specs.Taint.{Place, Register, Scratch, Byte, IsPlace, Sources, Given, From, unmarked, register, bytes_from, Writes, operands, loaded, writes_bytes, old_bytes, atomic_writes, scratch_writes, csr_writes, writes_by, writes_as, writes_of, sources_in, is_marked, union, union_of, mark_of, mark_or, bad_jump, is_marked_jump, jump, leaked, most_checked, leak, taint_by}
 
 -- sources that a machine with so many KiB of RAM has
 abbrev pub AreSources : ℕ → Sources → Type 0

@@ -1,5 +1,5 @@
 -- A guest that reads a sector of the disk, whose log and output the definitions give.
-use Rattle.std.proofs.Common.{◌≡◌, ℕ, zero, suc, ◌+◌, List, [], ◌∷◌, ◌++◌, map, refl}
+use Rattle.std.proofs.Common.{◌≡◌, ℕ, zero, suc, ◌+◌, List, [], ◌∷◌, ◌++◌, refl}
 use Rattle.std.specs.Int.{w32, to_le_bytes}
 use Rattle.memory_map.specs.Device.{is_device}
 use Rattle.run_events.specs.declared.record.EndCause.TheVariants.{Power}
@@ -11,7 +11,7 @@ use Rattle.any_machine.specs.Run.{Finished, run_from, events_of}
 use Rattle.any_machine.specs.Log.{log, output}
 use Rattle.hart_model.specs.Machine.{hart}
 use Rattle.hart_model.specs.Step.{cpu, outcome, step_by}
-use Rattle.machine_model.specs.Script.{Script, Latency}
+use Rattle.machine_model.specs.Script.{Latency}
 use Rattle.machine_model.specs.Board.{words_of}
 use Rattle.machine_model.specs.Image.{flat_image, ram_at_start}
 use Rattle.board_model.specs.Guest.{run}

@@ -1,20 +1,19 @@
 -- Small guests, whose logs and output the definitions give.
-use Rattle.std.proofs.Common.{◌≡◌, ℕ, zero, suc, ◌+◌, List, [], ◌∷◌, ◌++◌, map, length, Some, None, refl}
+use Rattle.std.proofs.Common.{◌≡◌, ℕ, List, [], ◌∷◌, ◌++◌, Some, refl}
 use Rattle.std.specs.Prelude.{slice_get}
 use Rattle.std.specs.Int.{w32, to_le_bytes}
 use Rattle.memory_map.specs.Device.{is_device}
 use Rattle.run_events.specs.declared.event.Event.TheVariants.{Irq}
 use Rattle.run_events.specs.declared.record.EndCause.TheVariants.{Power, Limit}
 use Rattle.run_events.specs.declared.record.Record.{Record}
-use Rattle.run_events.specs.declared.record.Record.TheVariants.{Load, Lines, Dma, Reach, End}
+use Rattle.run_events.specs.declared.record.Record.TheVariants.{Load, Lines, Reach, End}
 use Rattle.rv_csr.specs.Table
 use Rattle.rv_decode.specs.Listing
 use Rattle.any_machine.specs.Run.{Finished, run_from, events_of}
 use Rattle.any_machine.specs.Log.{log, output}
 use Rattle.hart_model.specs.Machine.{hart}
 use Rattle.hart_model.specs.Step.{cpu, outcome, step_by}
-use Rattle.machine_model.specs.Script.{Script, Entry, What, Serial, Tick, Latency, no_script}
-use Rattle.machine_model.specs.Board.{words_of}
+use Rattle.machine_model.specs.Script.{Script, What, Serial, Tick, no_script}
 use Rattle.machine_model.specs.Image.{flat_image, ram_at_start}
 use Rattle.board_model.specs.Guest.{run}
 use Rattle.board_model.specs.TheBoard.{board}

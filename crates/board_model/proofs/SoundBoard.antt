@@ -1,5 +1,5 @@
 -- In a run of the hart beside its board each step gets an input that it may take.
-use Rattle.std.proofs.Common.{◌≡◌, ℕ, suc, ◌+◌, ◌≤◌, true, false, List, [], ◌∷◌, length, Option, sym, ◌∙◌, ap, subst, refl, arith, inr}
+use Rattle.std.proofs.Common.{◌≡◌, ℕ, suc, ◌≤◌, true, false, List, [], ◌∷◌, length, Option, sym, ◌∙◌, subst, refl, arith, inr}
 use Rattle.std.specs.List.{AllByRecursion}
 use Rattle.memory_map.proofs.RamLaws.{InRam-in_ram}
 use Rattle.memory_map.specs.Ram.{InRam, in_ram}

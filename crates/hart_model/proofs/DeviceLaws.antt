@@ -1,11 +1,10 @@
 -- A step accesses no device but at the address of a register.
-use Rattle.std.proofs.Common.{◌≡◌, ℕ, true, false, length, Option, refl, sym, subst, ◌∙◌}
+use Rattle.std.proofs.Common.{◌≡◌, ℕ, true, false, length, Option, subst}
 use Rattle.memory_map.specs.Device.{is_device}
 use Rattle.run_events.specs.declared.access.Access.{Access}
 use Rattle.run_events.specs.declared.access.Access.TheVariants.{Quiet, Load, Store, Swap}
 use Rattle.run_events.specs.declared.event.Event.{Event}
 use Rattle.run_events.specs.declared.event.Event.TheVariants.{Dma, Irq, Trap, Exec}
-use Rattle.run_events.specs.declared.supply.Need.{Need}
 use Rattle.run_events.specs.declared.supply.Need.TheVariants as need
 use Rattle.run_events.specs.declared.supply.Supplied.{Supplied}
 use Rattle.hart_model.proofs.OutcomeLaws.{OutcomeKeeps, AccessInside, outcome_keeps}

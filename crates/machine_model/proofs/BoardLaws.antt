@@ -1,12 +1,11 @@
 -- What a board gives a machine is what a step may take: at most 128 words, each an aligned word in RAM; lines and marks
 -- that are in range.
-use Rattle.std.proofs.Common.{◌≡◌, ℕ, zero, suc, ◌+◌, ◌*◌, ◌%◌, ◌≤◌, Bool, true, false, List, [], ◌∷◌, ◌++◌, length, map, Option, Some, None, slice_get, refl, sym, ◌∙◌, ap, subst, arith, add-one}
+use Rattle.std.proofs.Common.{◌≡◌, ℕ, zero, suc, ◌+◌, ◌*◌, ◌%◌, ◌≤◌, Bool, true, false, List, [], ◌∷◌, ◌++◌, length, map, Option, Some, None, slice_get, refl, ap, arith}
 use Rattle.std.specs.Prelude.{◌||◌, ◌==◌, is_some, nat_le, if◌then◌else◌}
 use Rattle.std.specs.Option.{option_and_then, option_map_or}
 use Rattle.std.specs.List.{AllByRecursion, flat_map, list_any}
 use Rattle.memory_map.specs.Device.{is_device}
 use Rattle.memory_map.specs.Ram.{InRam}
-use Rattle.memory_map.proofs.RamLaws.{in_ram-InRam}
 use Rattle.run_events.specs.Record.{IsMark}
 use Rattle.run_events.specs.declared.supply.DmaWord.{DmaWord}
 use Rattle.machine_model.specs.Script.{Script, Entry, What, Serial, Tick, Latency}

@@ -1,8 +1,7 @@
 -- What announces nothing, and what an announcement leaves alone.
-use Rattle.std.proofs.Common.{◌≡◌, ◌≢◌, ℕ, ◌+◌, ◌*◌, ◌%◌, ◌^◌, ◌==◌, Bool, true, false, cond, Option, None, Some, refl, arith, rules}
+use Rattle.std.proofs.Common.{◌≡◌, ◌≢◌, ℕ, ◌%◌, ◌^◌, ◌==◌, false, None, refl, arith}
 use Rattle.std.proofs.lemmas.Bool.Decides.{nat_tests}
 use Rattle.run_events.specs.declared.access.Told.{Told}
-use Rattle.run_events.specs.declared.announcement.Announcement.{Announcement}
 use Rattle.run_events.specs.Announcement.{announcing, announced_by}
 
 -- another word than slti x0, x0, k announces nothing

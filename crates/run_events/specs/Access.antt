@@ -1,5 +1,5 @@
 -- Which bytes an access touches.
-use Rattle.std.specs.Prelude.{ℕ, Bool, true, false}
+use Rattle.std.specs.Prelude.{ℕ, Bool, false}
 use Rattle.run_events.specs.declared.access.Access.{Access}
 use Rattle.run_events.specs.declared.access.Access.TheVariants.{Quiet, Load, Store, Swap}
 
