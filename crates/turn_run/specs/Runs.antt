@@ -2,7 +2,7 @@
 use Rattle.std.specs.Prelude.{◌≡◌, ◌⊎◌, ℕ, ◌+◌, ◌-◌, ◌*◌, ◌≤◌, ◌<◌, ◌==◌, Bool, true, false, if◌then◌else◌, List, [], ◌∷◌, ◌++◌, length, take, drop, is_some, sum_by, slice_index}
 use Rattle.after_edge.specs.Fault.{Rose}
 use Rattle.after_edge.specs.Sink.{Telling, Adds, Writes, WritesPart}
-use Rattle.gate_core.specs.Core.{CoreState, Append, Close, Break, May, after_event, opening}
+use Rattle.gate_core.specs.Core.{CoreState, Append, Close, Break, May, after_event}
 use Rattle.gate_core.specs.Hub.{HubState}
 use Rattle.output_gate.specs.Gate.{GateState, count_below, with_release}
 use Rattle.run_events.specs.declared.item.Item.{Item}
@@ -82,10 +82,6 @@ module _ {M F : Type 0} (r : Recording M) (f : Following F) where
     pub required : parts.required.items ≡ c.required
     pub end : parts.end ≡ end_in (take core.appended (log_of c))
     pub sound : core.failed ≡ false
-
-  -- before the first turn
-  abbrev pub IsOpened : Course → Parts M F → Type 0
-  IsOpened c parts = IsAt c (opening (plan_of c)) parts
 
   -- some course and some state of the core are those of the run
   pub record IsSoundRun (parts : Parts M F) : Type 0 where
@@ -196,39 +192,4 @@ module _ {M F : Type 0} (r : Recording M) (f : Following F) where
     pub broken : IsBroken c next after
     pub more : from ≤ next.released
     pub put : Adds sink.holds old new (bytes_between c from next.released)
-    pub rose : Rose (sink.faults old) (sink.faults new)
-
-  -- the log is closed, and each follower has taken all of it
-  abbrev pub IsReadOut : Parts M F → Type 0
-  IsReadOut parts = (parts.hub.closed ≡ true) × ((reader : ℕ) → reader < length parts.hub.taken → slice_index parts.hub.taken reader ≡ parts.hub.appended)
-
-  -- THE END
-
-  -- A run that went to its end: all records were appended and taken, and all bytes that are let out were released.
-  pub record IsEnded (c : Course) (parts : Parts M F) : Type 0 where
-    pub core : CoreState
-    pub at : IsAt c core parts
-    pub closed : core.closed ≡ true
-    pub appended : core.appended ≡ length c.items
-    pub taken : AllTaken c core
-    pub released : core.released ≡ length (released_bytes c)
-    pub none : parts.gate.steps ≡ []
-
-  -- a run that a failed put has ended: the log was closed, and all of it was taken
-  pub record IsStopped (c : Course) (parts : Parts M F) : Type 0 where
-    pub core : CoreState
-    pub broken : IsBroken c core parts
-    pub closed : core.closed ≡ true
-    pub taken : AllTaken c core
-
-  -- and what was put by then: all that is let out
-  pub record HasEnded {S : Type 0} (c : Course) (parts : Parts M F) (sink : Telling S) (old new : S) : Type 0 where
-    pub ended : IsEnded c parts
-    pub put : Writes sink old new (released_bytes c)
-
-  -- or the first bytes of what is let out of the records in the log: as many as the core has released
-  pub record HasStopped {S : Type 0} (c : Course) (parts : Parts M F) (sink : Telling S) (old new : S) : Type 0 where
-    pub stopped : IsStopped c parts
-    pub put : Adds sink.holds old new (take stopped.core.released (released_by c stopped.core.appended))
-    pub within : stopped.core.released ≤ length (released_by c stopped.core.appended)
     pub rose : Rose (sink.faults old) (sink.faults new)
