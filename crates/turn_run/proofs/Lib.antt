@@ -3,7 +3,9 @@ pub mod CourseLaws
 pub mod IssueLaws
 pub mod LeastLaws
 pub mod ListLaws
+pub mod OpeningLaws
 pub mod PartLaws
+pub mod PeriodLaws
 pub mod ReadLaws
 pub mod ReadTurnLaws
 pub mod ReleaseLaws

@@ -17,11 +17,11 @@ use Rattle.turn_run.specs.Following.{Following}
 use Rattle.turn_run.specs.Course.{Course, Agrees, released_bytes}
 use Rattle.turn_run.specs.Endings.{end_in}
 use Rattle.turn_run.specs.Gates.{released_by}
-use Rattle.turn_run.specs.Runs.{AllTaken, IsAt, IsBroken}
+use Rattle.turn_run.specs.Runs.{AllRead, AllTaken, IsAt, IsBroken}
 
 -- the log is closed, and each follower has taken all of it
 abbrev pub IsReadOut : {M F : Type 0} → Parts M F → Type 0
-IsReadOut parts = (parts.hub.closed ≡ true) × ((reader : ℕ) → reader < length parts.hub.taken → slice_index parts.hub.taken reader ≡ parts.hub.appended)
+IsReadOut parts = (parts.hub.closed ≡ true) × AllRead parts.hub
 
 -- HOW A RUN ENDS
 

@@ -8,13 +8,9 @@ use Rattle.run_settings.specs.declared.letter.Letter.TheVariants as letter
 use Rattle.turn_run.specs.declared.parts.Parts.{Parts}
 use Rattle.turn_run.specs.Following.{Following}
 use Rattle.turn_run.specs.Course.{Course}
-use Rattle.turn_run.specs.Runs.{AllTaken, IsBroken, IsFollowed, turns_left}
+use Rattle.turn_run.specs.Runs.{AllRead, AllTaken, IsBroken, IsFollowed, turns_left}
 
--- each reader has taken all of the log
-abbrev pub AllRead : HubState → Type 0
-AllRead hub = (reader : ℕ) → reader < length hub.taken → slice_index hub.taken reader ≡ hub.appended
-
--- some reader has not
+-- some reader has not taken all of the log
 pub record IsBehind (hub : HubState) : Type 0 where
   pub reader : ℕ
   pub there : reader < length hub.taken
@@ -24,7 +20,7 @@ pub record IsBehind (hub : HubState) : Type 0 where
 -- record only where some reader is behind or bytes wait; a follower, where it has taken all; the gate, where once all is
 -- taken no byte waits.
 abbrev pub IsIdle : HubState → List ℕ → Letter → Type 0
-IsIdle hub steps letter.Record = (hub.closed ≡ true) ⊎ IsBehind hub ⊎ (1 ≤ length steps)
+IsIdle hub steps letter.Record = (hub.closed ≡ true) ⊎ (IsBehind hub ⊎ (1 ≤ length steps))
 IsIdle hub steps (letter.Read reader) = slice_index hub.taken reader ≡ hub.appended
 IsIdle hub steps letter.Release = AllRead hub → steps ≡ []
 

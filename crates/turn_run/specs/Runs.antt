@@ -31,6 +31,10 @@ bytes_between c from to = bytes_in (drop from (take to (output_of c)))
 abbrev pub unread : HubState → ℕ
 unread hub = sum_by (λ count. hub.appended - count) hub.taken
 
+-- each reader has taken all of the log
+abbrev pub AllRead : HubState → Type 0
+AllRead hub = (reader : ℕ) → reader < length hub.taken → slice_index hub.taken reader ≡ hub.appended
+
 -- the next of these items carries a byte
 abbrev pub next_has_byte : List Item → Bool
 next_has_byte [] = false

@@ -4,8 +4,8 @@ ghost use Rattle.gate_core.specs.Core.{CoreState};
 ghost use Rattle.turn_run.specs.Course.{Course};
 ghost use Rattle.turn_run.specs.Closings.{IsReadOut, IsStopped};
 ghost use Rattle.turn_run.specs.Openings.{followers_of};
-ghost use Rattle.turn_run.specs.Periods.{AllRead, HasReadAll, HasReadUp, IsBrokenRun};
-ghost use Rattle.turn_run.specs.Runs.{IsBesides, IsBroken, IsFollowed, IsFollowedRun};
+ghost use Rattle.turn_run.specs.Periods.{HasReadAll, HasReadUp, IsBrokenRun};
+ghost use Rattle.turn_run.specs.Runs.{AllRead, IsBesides, IsBroken, IsFollowed, IsFollowedRun};
 
 use crate::{Follower, Parts, Turn};
 use any_machine::Recorder;
