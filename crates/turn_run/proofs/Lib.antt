@@ -1,5 +1,6 @@
 pub mod AppendLaws
 pub mod CourseLaws
+pub mod EndLaws
 pub mod IssueLaws
 pub mod LeastLaws
 pub mod ListLaws
@@ -9,5 +10,6 @@ pub mod PeriodLaws
 pub mod ReadLaws
 pub mod ReadTurnLaws
 pub mod ReleaseLaws
+pub mod StopLaws
 pub mod WithholdLaws
 pub mod TurnLaws

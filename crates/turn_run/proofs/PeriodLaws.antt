@@ -1,10 +1,10 @@
 -- What the turns of a period move, and where they lead.
 use Rattle.std.proofs.Common.{◌≡◌, ◌⊎◌, inl, inr, ℕ, ◌+◌, ◌-◌, ◌*◌, ◌<◌, ◌≤◌, Bool, true, false, cond, List, [], ◌∷◌, ◌++◌, length, take, drop, Some, refl, sym, ap, subst, ◌∙◌, arith}
-use Rattle.std.specs.Prelude.{slice_index, slice_get, slice_set}
+use Rattle.std.specs.Prelude.{get_or, slice_index}
 use Rattle.std.specs.List.{All, Contains}
 use Rattle.std.proofs.Math.Seq.{take-add}
-use Rattle.std.proofs.lemmas.List.{drop_all, drop-drop, drop-map, drop-take, get_or-set_same, length-take, take-map}
-use Rattle.std.proofs.lemmas.List.Elements.{All-contains, All-get_or}
+use Rattle.std.proofs.lemmas.List.{drop_all, drop-drop, drop-map, drop-take, length-take, take-map, take_more}
+use Rattle.std.proofs.lemmas.List.Elements.{All-contains, All-push}
 use Rattle.after_edge.specs.Sink.{Telling, Writes}
 use Rattle.after_edge.proofs.SinkLaws.{Adds-then, Writes-nothing, Writes-same, Writes-then}
 use Rattle.after_edge.proofs.FaultLaws.{Rose-later}
@@ -237,3 +237,33 @@ all_idle parts turns pattern idle =
       ])
     ] in
     (closed, all)
+
+module _ {M F : Type 0} (r : Recording M) (f : Following F) (before : Parts M F) where
+  -- so many turns of a period have moved something, or there was nothing to do in them
+  abbrev pub HasMoved : Parts M F → List Letter → Type 0
+  HasMoved after turns = (turns_left r f after < turns_left r f before) ⊎ (IsStill r f before after × All (IsIdle before.hub before.gate.steps) turns)
+
+  -- one turn more
+  pub move_on : (mid after : Parts M F) (turns : List Letter) (place : ℕ) (d : Letter) → place < length turns → HasMoved mid (take place turns) → Moves r f (get_or turns place d) mid after → HasMoved after (take (place + 1) turns)
+  move_on mid after turns place d there so_far moves = elim so_far [
+    | inl less ↦ inl (elim moves [
+      | inl more ↦ omega (arith, less, more)
+      | inr (still, idle) ↦ omega (arith, less, still.left)
+    ])
+    | inr (same, all) ↦ elim moves [
+      | inl less ↦ inl (omega (arith, less, same.left))
+      | inr (still, idle) ↦ inr (
+        record { hub = still.hub ∙ same.hub; steps = still.steps ∙ same.steps; left = omega (arith, still.left, same.left) },
+        subst (All (IsIdle before.hub before.gate.steps)) (sym (take_more turns place d there))
+            (All-push (IsIdle before.hub before.gate.steps) (take place turns) (get_or turns place d) all
+                (subst (λ h. IsIdle h before.gate.steps (get_or turns place d)) same.hub (subst (λ s. IsIdle mid.hub s (get_or turns place d)) same.steps idle))),
+      )
+    ]
+  ]
+
+  -- a whole period has moved something, or the run was read out
+  pub falls : (after : Parts M F) (turns : List Letter) → IsPattern (length before.hub.taken) turns → HasMoved after turns → (turns_left r f after < turns_left r f before) ⊎ IsReadOut before
+  falls after turns pattern moved = elim moved [
+    | inl less ↦ inl less
+    | inr (still, idle) ↦ inr (all_idle before turns pattern idle)
+  ]

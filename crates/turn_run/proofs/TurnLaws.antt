@@ -41,7 +41,7 @@ module _ {M F : Type 0} (r : Recording M) (f : Following F) (c : Course) (core :
   is = at.follows.course
 
   -- what is posted for a reader is what its follower says of the records that it has taken
-  verdict_agrees : (reader : ℕ) → reader < length c.limits → Agrees c reader (slice_index core.taken reader) (verdict_at parts.hub reader)
+  pub verdict_agrees : (reader : ℕ) → reader < length c.limits → Agrees c reader (slice_index core.taken reader) (verdict_at parts.hub reader)
   verdict_agrees reader there = elim (slice_get_cases parts.followers.items reader).1 [
     | inl (follower, less, here, same) ↦ (
         let fs = at.follows in
@@ -53,7 +53,7 @@ module _ {M F : Type 0} (r : Recording M) (f : Following F) (c : Course) (core :
   required_there : (place : ℕ) → place < length c.required → slice_index c.required place < length c.limits
   required_there place less = All-get_or (λ reader. reader < length c.limits) c.required place 0 less is.required
 
-  posted_is : (reader : ℕ) → approved_at parts.hub reader ≡ slice_index core.approved reader
+  pub posted_is : (reader : ℕ) → approved_at parts.hub reader ≡ slice_index core.approved reader
   posted_is reader = approved_is parts.hub reader ∙ ap (λ l. slice_index l reader) at.follows.approved
 
   -- what a required reader refuses is its limit

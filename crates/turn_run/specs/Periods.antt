@@ -61,6 +61,11 @@ module _ {M F : Type 0} (f : Following F) where
     pub on : HasRead c core after
     pub all : slice_index on.next.taken reader ≡ on.next.appended
 
+  -- and the first so many have
+  pub record HasReadSome (c : Course) (core : CoreState) (count : ℕ) (after : Parts M F) : Type 0 where
+    pub on : HasRead c core after
+    pub all : (reader : ℕ) → reader < count → slice_index on.next.taken reader ≡ on.next.appended
+
   -- and each has
   pub record HasReadAll (c : Course) (core : CoreState) (after : Parts M F) : Type 0 where
     pub on : HasRead c core after

@@ -1,5 +1,5 @@
 //! How a run is read to its close.
-ghost use Rattle.std.specs.Prelude.{◌≡◌, ◌<◌, true, false, length};
+ghost use Rattle.std.specs.Prelude.{◌≡◌, ◌<◌, ◌≤◌, true, false, length};
 ghost use Rattle.gate_core.specs.Core.{CoreState};
 ghost use Rattle.turn_run.specs.Course.{Course};
 ghost use Rattle.turn_run.specs.Closings.{IsReadOut, IsStopped};
@@ -14,7 +14,8 @@ use gate_core::Hub;
 impl<M: Recorder, F: Follower> Parts<M, F> {
     // Whether the log is closed, and each follower has read it to the close.
     pub(crate) fn is_read_out(&self) -> bool
-        requires { length (followers_of self.now) ≡ length self.now.hub.taken }
+        requires readers { length (followers_of self.now) ≡ length self.now.hub.taken }
+        requires few { length (followers_of self.now) ≤ 8 }
         ensures yes { result ≡ true → IsReadOut self.now }
         ensures no { result ≡ false → IsReadOut self.now → ⊥ }
     {
@@ -70,7 +71,8 @@ impl<M: Recorder, F: Follower> Parts<M, F> {
         'taking: loop {
             match self.read(reader) {
                 Turn::Took => {}
-                Turn::Empty | Turn::Closed => return,
+                Turn::Empty => return,
+                Turn::Closed => return,
             }
         }
     }
