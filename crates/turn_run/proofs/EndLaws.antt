@@ -24,7 +24,7 @@ use Rattle.turn_run.specs.Runs.{AllTaken, HasCome, HasCrashed, HasReleased, IsAt
 use Rattle.turn_run.proofs.CourseLaws.{is_plan, issued_IsPrefix, issued_all, length_log, reach_whole}
 use Rattle.turn_run.proofs.LeastLaws.{least-each}
 use Rattle.turn_run.proofs.ListLaws.{AllBelow, before-long, before-split, count-before, split_IsPrefix, splits}
-use Rattle.turn_run.proofs.PeriodLaws.{come_on, comes_released}
+use Rattle.turn_run.proofs.PeriodLaws.{put_on}
 use Rattle.turn_run.proofs.ReleaseLaws.{released_below, released_limit}
 use Rattle.turn_run.proofs.TurnLaws.{posted_is, verdict_agrees}
 
@@ -99,7 +99,7 @@ module _ {M F : Type 0} (r : Recording M) (f : Following F) (c : Course) (core :
       let here : (get_or (output_of c) core.released (0, 0)).0 < from = omega (arith, get_or-map (λ (byte : ℕ × ℕ). byte.0) (output_of c) core.released (0, 0) 0 less, step_is, low) in
       let more : AllBelow from (take (core.released + 1) (output_of c)) =
       subst (AllBelow from) (sym (take_more (output_of c) core.released (0, 0) less))
-          (All-push (λ (byte : ℕ × ℕ). byte.0 < from) (take core.released (output_of c)) (get_or (output_of c) core.released (0, 0)) (released_limit c is core sound from limit) here) in
+      (All-push (λ (byte : ℕ × ℕ). byte.0 < from) (take core.released (output_of c)) (get_or (output_of c) core.released (0, 0)) (released_limit c is core sound from limit) here) in
       omega (arith, before-long from (core.released + 1) (output_of c) (omega (arith, less)) more)
 
   none_releasable : (count : ℕ) → IsReleasable (plan_of c) core count → ⊥
@@ -176,7 +176,6 @@ module _ {M F : Type 0} (r : Recording M) (f : Following F) (c : Course) where
       let whole : has.next.appended ≡ length c.items = read_whole has.next mid has.at out in
       let taken : AllTaken c has.next = read_taken has.next mid has.at out in
       let none : after.gate.steps ≡ [] = last.none taken in
-      let all : HasCome r f c 0 after sink old new = come_on r f c sink 0 mid after old now new has (comes_released r f c sink has.next mid after now new last) in
       record {
         ended = record {
           core = core;
@@ -187,7 +186,7 @@ module _ {M F : Type 0} (r : Recording M) (f : Following F) (c : Course) where
           released = released_is r f c core after last.at whole taken none;
           none = none;
         };
-        put = Writes-same sink old new (put_is r f c core after last.at whole taken none) all.put;
+        put = Writes-same sink old new (put_is r f c core after last.at whole taken none) (put_on r f c sink 0 has.next.released last.count has.more last.more old now new has.put last.put);
       }
 
   -- a run that a put has ended, and that was stopped

@@ -1,4 +1,5 @@
 pub mod AppendLaws
+pub mod ClosingLaws
 pub mod CourseLaws
 pub mod EndLaws
 pub mod IssueLaws

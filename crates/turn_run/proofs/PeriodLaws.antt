@@ -76,6 +76,11 @@ module _ {M F : Type 0} (r : Recording M) (f : Following F) (c : Course) where
     pub crashes : (core : CoreState) (after : Parts M F) (old new : S) → HasBroken r f c core after sink old new → HasCrashed r f c core.released after sink old new
     crashes core after old new has = record { next = after_event (plan_of c) core (Break has.count has.done); broken = has.broken; more = omega arith; put = has.put; rose = has.rose }
 
+    -- what two turns put
+    pub put_on : (from mid to : ℕ) → from ≤ mid → mid ≤ to → (old now new : S) → Writes sink old now (bytes_between c from mid) → Writes sink now new (bytes_between c mid to) → Writes sink old new (bytes_between c from to)
+    put_on from mid to low high old now new first second =
+        Writes-same sink old new (between-then c from mid to low high) (Writes-then sink old now new (bytes_between c from mid) (bytes_between c mid to) first second)
+
     -- one turn more
     module _ (from : ℕ) (mid after : Parts M F) (old now new : S) (has : HasCome r f c from mid sink old now) where
       pub come_on : HasCome r f c has.next.released after sink now new → HasCome r f c from after sink old new
@@ -83,8 +88,7 @@ module _ {M F : Type 0} (r : Recording M) (f : Following F) (c : Course) where
         next = more.next;
         at = more.at;
         more = omega (arith, has.more, more.more);
-        put = Writes-same sink old new (between-then c from has.next.released more.next.released has.more more.more)
-            (Writes-then sink old now new (bytes_between c from has.next.released) (bytes_between c has.next.released more.next.released) has.put more.put);
+        put = put_on from has.next.released more.next.released has.more more.more old now new has.put more.put;
       }
 
       pub crash_on : HasCrashed r f c has.next.released after sink now new → HasCrashed r f c from after sink old new
@@ -134,7 +138,7 @@ module _ {M F : Type 0} (r : Recording M) (f : Following F) (c : Course) where
       inl (closed_is ∙ has.0),
     )
 
-  -- A TURN OF A FOLLOWER
+    -- A TURN OF A FOLLOWER
 
     -- the gate stands as well where a reader has posted again
     gates_read : (reader : ℕ) → reader < length c.limits → slice_index core.taken reader < core.appended → Gates c (after_turn c core reader) before.gate
@@ -202,7 +206,7 @@ module _ {M F : Type 0} (r : Recording M) (f : Following F) (c : Course) where
       reader_moves reader turn.Empty has less = idle_read reader less has.1
       reader_moves reader turn.Closed has less = idle_read reader less has.1
 
-  -- A TURN OF THE GATE
+    -- A TURN OF THE GATE
 
     all_taken : AllRead before.hub → AllTaken c core
     all_taken all reader there = sym (ap (λ l. slice_index l reader) taken_is) ∙ all reader (omega (arith, there, ap length taken_is, at.follows.sound.taken)) ∙ appended_is
@@ -256,7 +260,7 @@ module _ {M F : Type 0} (r : Recording M) (f : Following F) (before : Parts M F)
         record { hub = still.hub ∙ same.hub; steps = still.steps ∙ same.steps; left = omega (arith, still.left, same.left) },
         subst (All (IsIdle before.hub before.gate.steps)) (sym (take_more turns place d there))
             (All-push (IsIdle before.hub before.gate.steps) (take place turns) (get_or turns place d) all
-                (subst (λ h. IsIdle h before.gate.steps (get_or turns place d)) same.hub (subst (λ s. IsIdle mid.hub s (get_or turns place d)) same.steps idle))),
+            (subst (λ h. IsIdle h before.gate.steps (get_or turns place d)) same.hub (subst (λ s. IsIdle mid.hub s (get_or turns place d)) same.steps idle))),
       )
     ]
   ]
