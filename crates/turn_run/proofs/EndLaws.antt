@@ -194,26 +194,8 @@ module _ {M F : Type 0} (r : Recording M) (f : Following F) (c : Course) where
   is_stopped sink mid after old new has stopped = record {
     count = has.next.appended;
     put = has.next.released;
+    failed = has.failed;
     stopped = stopped;
     added = subst (λ l. (held : List ℕ) → sink.holds old held → sink.holds new (held ++ l)) (first_released c has.broken.follows.course has.next has.broken.follows.sound has.broken.there) has.put;
     rose = has.rose;
   }
-
-  -- each leaves its log closed and read out
-  pub stopped_out : (count put : ℕ) (parts : Parts M F) → IsStopped r f c count put parts → IsReadOut parts
-  stopped_out count put parts stopped =
-      let fs = stopped.broken.follows in
-      let taken : parts.hub.taken ≡ stopped.core.taken = λ i. (fs.stands i).taken in
-      let appended : parts.hub.appended ≡ stopped.core.appended = λ i. (fs.stands i).appended in (
-        ap (λ (h : HubState). h.closed) fs.stands ∙ stopped.closed,
-        λ reader there. ap (λ l. slice_index l reader) taken ∙ stopped.taken reader (omega (arith, there, ap length taken, fs.sound.taken)) ∙ sym appended,
-      )
-
-  pub ended_out : (parts : Parts M F) → IsEnded r f c parts → IsReadOut parts
-  ended_out parts ended =
-      let fs = ended.at.follows in
-      let taken : parts.hub.taken ≡ ended.core.taken = λ i. (fs.stands i).taken in
-      let appended : parts.hub.appended ≡ ended.core.appended = λ i. (fs.stands i).appended in (
-        ap (λ (h : HubState). h.closed) fs.stands ∙ ended.closed,
-        λ reader there. ap (λ l. slice_index l reader) taken ∙ ended.taken reader (omega (arith, there, ap length taken, fs.sound.taken)) ∙ sym appended,
-      )

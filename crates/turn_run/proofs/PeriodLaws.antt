@@ -32,24 +32,22 @@ use Rattle.turn_run.specs.Runs.{AllRead, AllTaken, HasBroken, HasCome, HasCrashe
 use Rattle.turn_run.specs.Sources.{StillToCome, items_left}
 use Rattle.turn_run.proofs.CourseLaws.{is_plan}
 use Rattle.turn_run.proofs.LeastLaws.{least-rises}
+use Rattle.turn_run.proofs.ReleaseLaws.{between_is}
 
 -- BYTES BETWEEN PLACES
 
 between-none : (c : Course) (n : ℕ) → bytes_between c n n ≡ []
 between-none c n = ap bytes_in (drop_all n (take n (output_of c)) (omega (arith, length-take n (output_of c))))
 
-between-far : (c : Course) (from count : ℕ) → bytes_between c from (from + count) ≡ take count (bytes_in (drop from (output_of c)))
-between-far c from count = ap bytes_in (drop-take from count (output_of c)) ∙ sym (take-map (λ (byte : ℕ × ℕ). byte.1) count (drop from (output_of c)))
-
 between-add : (c : Course) (from first second : ℕ) → bytes_between c from (from + first) ++ bytes_between c (from + first) (from + first + second) ≡ bytes_between c from (from + first + second)
 between-add c from first second =
     let rest : List ℕ = bytes_in (drop from (output_of c)) in
     let later : bytes_in (drop (from + first) (output_of c)) ≡ drop first rest =
     ap bytes_in (sym (drop-drop first from (output_of c))) ∙ sym (drop-map (λ (byte : ℕ × ℕ). byte.1) first (drop from (output_of c))) in
-    (λ i. between-far c from first i ++ between-far c (from + first) second i)
+    (λ i. between_is c from first i ++ between_is c (from + first) second i)
     ∙ ap (λ l. take first rest ++ take second l) later
     ∙ sym (take-add first second rest)
-    ∙ sym (between-far c from (first + second))
+    ∙ sym (between_is c from (first + second))
     ∙ ap (bytes_between c from) (let e : from + (first + second) ≡ from + first + second = omega arith in e)
 
 pub between-then : (c : Course) (from mid to : ℕ) → from ≤ mid → mid ≤ to → bytes_between c from mid ++ bytes_between c mid to ≡ bytes_between c from to
@@ -73,8 +71,15 @@ module _ {M F : Type 0} (r : Recording M) (f : Following F) (c : Course) where
     pub comes_released : (core : CoreState) (before after : Parts M F) (old new : S) → HasReleased r f c core before after sink old new → HasCome r f c core.released after sink old new
     comes_released core before after old new has = record { next = with_released core has.count; at = has.at; more = has.more; put = has.put }
 
-    pub crashes : (core : CoreState) (after : Parts M F) (old new : S) → HasBroken r f c core after sink old new → HasCrashed r f c core.released after sink old new
-    crashes core after old new has = record { next = after_event (plan_of c) core (Break has.count has.done); broken = has.broken; more = omega arith; put = has.put; rose = has.rose }
+    pub crashes : (core : CoreState) (before after : Parts M F) (old new : S) → IsAt r f c core before → HasBroken r f c core after sink old new → HasCrashed r f c core.released after sink old new
+    crashes core before after old new at has = record {
+      next = after_event (plan_of c) core (Break has.count has.done);
+      broken = has.broken;
+      failed = record { before = core; sound = at.follows.sound; piece = has.count; done = has.done; may = has.may; appended = refl; out = refl };
+      more = omega arith;
+      put = has.put;
+      rose = has.rose;
+    }
 
     -- what two turns put
     pub put_on : (from mid to : ℕ) → from ≤ mid → mid ≤ to → (old now new : S) → Writes sink old now (bytes_between c from mid) → Writes sink now new (bytes_between c mid to) → Writes sink old new (bytes_between c from to)
@@ -95,6 +100,7 @@ module _ {M F : Type 0} (r : Recording M) (f : Following F) (c : Course) where
       crash_on more = record {
         next = more.next;
         broken = more.broken;
+        failed = more.failed;
         more = omega (arith, has.more, more.more);
         put = subst (λ l. (held : List ℕ) → sink.holds old held → sink.holds new (held ++ l)) (between-then c from has.next.released more.next.released has.more more.more)
             (Adds-then sink.holds old now new (bytes_between c from has.next.released) (bytes_between c has.next.released more.next.released) has.put.added more.put);

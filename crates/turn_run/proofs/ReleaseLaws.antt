@@ -31,7 +31,7 @@ before-take bound low high sent climbs =
     ∙ take_all (length (before_step bound sent)) (before_step bound sent) (omega arith)
 
 -- the output between two places, in other words
-between_is : (c : Course) (from count : ℕ) → bytes_between c from (from + count) ≡ take count (bytes_in (drop from (output_of c)))
+pub between_is : (c : Course) (from count : ℕ) → bytes_between c from (from + count) ≡ take count (bytes_in (drop from (output_of c)))
 between_is c from count = ap bytes_in (drop-take from count (output_of c)) ∙ sym (take-map (λ (byte : ℕ × ℕ). byte.1) count (drop from (output_of c)))
 
 -- some first ones of the output between two places

@@ -17,7 +17,7 @@ use Rattle.turn_run.specs.Following.{Following}
 use Rattle.turn_run.specs.Course.{Course, Agrees, released_bytes}
 use Rattle.turn_run.specs.Endings.{end_in}
 use Rattle.turn_run.specs.Gates.{released_by}
-use Rattle.turn_run.specs.Runs.{AllRead, AllTaken, IsAt, IsBroken}
+use Rattle.turn_run.specs.Runs.{AllRead, AllTaken, HasFailed, IsAt, IsBroken}
 
 -- the log is closed, and each follower has taken all of it
 abbrev pub IsReadOut : {M F : Type 0} → Parts M F → Type 0
@@ -53,10 +53,11 @@ module _ {M F : Type 0} (r : Recording M) (f : Following F) where
     pub ended : IsEnded c parts
     pub put : Writes sink old new (released_bytes c)
 
-  -- or the first bytes of what is let out of the records in the log
+  -- or the first bytes of what is let out of the records in the log, which was closed where it stood when the put failed
   pub record HasStopped {S : Type 0} (c : Course) (parts : Parts M F) (sink : Telling S) (old new : S) : Type 0 where
     pub count : ℕ
     pub put : ℕ
+    pub failed : HasFailed c count put
     pub stopped : IsStopped c count put parts
     pub added : Adds sink.holds old new (take put (released_by c count))
     pub rose : Rose (sink.faults old) (sink.faults new)

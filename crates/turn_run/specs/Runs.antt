@@ -2,7 +2,7 @@
 use Rattle.std.specs.Prelude.{◌≡◌, ◌⊎◌, ℕ, ◌+◌, ◌-◌, ◌*◌, ◌≤◌, ◌<◌, ◌==◌, Bool, true, false, if◌then◌else◌, List, [], ◌∷◌, ◌++◌, length, take, drop, is_some, sum_by, slice_index}
 use Rattle.after_edge.specs.Fault.{Rose}
 use Rattle.after_edge.specs.Sink.{Telling, Adds, Writes, WritesPart}
-use Rattle.gate_core.specs.Core.{CoreState, Append, Close, Break, May, after_event}
+use Rattle.gate_core.specs.Core.{CoreState, Append, Close, Break, IsSound, May, after_event}
 use Rattle.gate_core.specs.Hub.{HubState}
 use Rattle.output_gate.specs.Gate.{GateState, count_below, with_release}
 use Rattle.run_events.specs.declared.item.Item.{Item}
@@ -75,6 +75,16 @@ module _ {M F : Type 0} (f : Following F) where
   Reads c core reader turn.Took before after = (slice_index core.taken reader < core.appended) × IsFollowed c (after_turn c core reader) after
   Reads c core reader turn.Empty before after = (core.closed ≡ false) × (slice_index core.taken reader ≡ core.appended)
   Reads c core reader turn.Closed before after = (core.closed ≡ true) × (slice_index core.taken reader ≡ core.appended)
+
+-- A put of bytes that might be released has failed, where so many records were appended; so many bytes had gone out then.
+pub record HasFailed (c : Course) (count put : ℕ) : Type 0 where
+  pub before : CoreState
+  pub sound : IsSound (plan_of c) before
+  pub piece : ℕ
+  pub done : ℕ
+  pub may : May (plan_of c) before (Break piece done)
+  pub appended : before.appended ≡ count
+  pub out : before.released + done ≡ put
 
 module _ {M F : Type 0} (r : Recording M) (f : Following F) where
   -- No put has failed: the followers stand where the core does, the recorder has the items after those that were
@@ -194,6 +204,7 @@ module _ {M F : Type 0} (r : Recording M) (f : Following F) where
   pub record HasCrashed {S : Type 0} (c : Course) (from : ℕ) (after : Parts M F) (sink : Telling S) (old new : S) : Type 0 where
     pub next : CoreState
     pub broken : IsBroken c next after
+    pub failed : HasFailed c next.appended next.released
     pub more : from ≤ next.released
     pub put : Adds sink.holds old new (bytes_between c from next.released)
     pub rose : Rose (sink.faults old) (sink.faults new)

@@ -22,4 +22,4 @@ pub returns-in-Err-release-clause-err : goal.returns-in-Err-release-clause-err
 returns-in-Err-release-clause-err g c = λ of opened.
     let now = c.loop-parts.invariant of opened in
     crash_on g.M.Recorder.recording g.F.Follower.following of g.O.Sink.told 0 c.loop-parts.parts c.release.new.self c.args.out.now c.loop-parts.out c.release.new.out now
-    (crashes g.M.Recorder.recording g.F.Follower.following of g.O.Sink.told now.next c.release.new.self c.loop-parts.out c.release.new.out (c.in-Err-release.ensures.err of now.next now.at))
+    (crashes g.M.Recorder.recording g.F.Follower.following of g.O.Sink.told now.next c.loop-parts.parts c.release.new.self c.loop-parts.out c.release.new.out now.at (c.in-Err-release.ensures.err of now.next now.at))

@@ -38,4 +38,4 @@ returns-in-Ok-clause-moves g c =
 
 pub returns-in-Err-clause-err : goal.returns-in-Err-clause-err
 returns-in-Err-clause-err g c = λ of core at.
-    crashes g.M.Recorder.recording g.F.Follower.following of g.O.Sink.told core c.release.new.self c.args.out.now c.release.new.out (c.in-Err.ensures.err of core at)
+    crashes g.M.Recorder.recording g.F.Follower.following of g.O.Sink.told core c.args.parts.now c.release.new.self c.args.out.now c.release.new.out at (c.in-Err.ensures.err of core at)
