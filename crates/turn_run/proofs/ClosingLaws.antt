@@ -1,13 +1,11 @@
 -- What stands of a run that is over.
-use Rattle.std.proofs.Common.{◌≡◌, ℕ, ◌<◌, ◌≤◌, true, List, length, take, Some, sym, ap, subst, ◌∙◌, arith}
+use Rattle.std.proofs.Common.{◌≡◌, ℕ, ◌<◌, ◌≤◌, true, length, take, Some, sym, ap, subst, ◌∙◌, arith}
 use Rattle.std.specs.Prelude.{slice_get, slice_index}
 use Rattle.std.proofs.lemmas.List.{length-take-le, take-map, take_all}
 use Rattle.std.proofs.lemmas.Option.{slice_get_within}
 use Rattle.circular_buffer.specs.Buffer.{keep_last}
 use Rattle.run_events.specs.declared.item.Item.{Item}
-use Rattle.run_events.specs.declared.record.Record.{Record}
 use Rattle.any_machine.specs.Recording.{Recording}
-use Rattle.gate_core.specs.declared.verdict.Verdict.{Verdict}
 use Rattle.gate_core.specs.Core.{CoreState}
 use Rattle.gate_core.specs.Hub.{HubState, verdict_at}
 use Rattle.turn_run.specs.declared.closing.Closing.{Closing}

@@ -1,11 +1,10 @@
 -- What has gone out when a run is over.
-use Rattle.std.proofs.Common.{◌≡◌, ◌⊎◌, inl, inr, ℕ, ◌+◌, ◌-◌, ◌<◌, ◌≤◌, true, false, List, [], ◌∷◌, ◌++◌, length, take, drop, Option, Some, None, refl, sym, ap, subst, ◌∙◌, arith}
+use Rattle.std.proofs.Common.{◌≡◌, inl, inr, ℕ, ◌+◌, ◌-◌, ◌<◌, ◌≤◌, true, false, List, [], ◌++◌, length, take, drop, Option, Some, None, refl, sym, ap, subst, ◌∙◌, arith}
 use Rattle.std.specs.Prelude.{get_or, min, slice_index}
-use Rattle.std.specs.List.{All}
 use Rattle.std.proofs.lemmas.Bool.{cases_lt}
 use Rattle.std.proofs.lemmas.List.{get_or-map, length-drop, length-map, length-take-le, take-append-le, take-map, take-take, take_all, take_more}
 use Rattle.std.proofs.lemmas.List.Elements.{All-get_or, All-push}
-use Rattle.after_edge.specs.Sink.{Telling, Writes}
+use Rattle.after_edge.specs.Sink.{Telling}
 use Rattle.after_edge.proofs.SinkLaws.{Writes-same}
 use Rattle.list_laws.specs.Prefix.{IsPrefix}
 use Rattle.list_laws.proofs.PrefixLaws.{IsPrefix-length, IsPrefix-take}
@@ -17,9 +16,9 @@ use Rattle.gate_core.proofs.FinishLaws.{releases_all}
 use Rattle.output_gate.proofs.GateLaws.{count_below-before}
 use Rattle.turn_run.specs.declared.parts.Parts.{Parts}
 use Rattle.turn_run.specs.Following.{Following}
-use Rattle.turn_run.specs.Closings.{HasEnded, HasStopped, IsEnded, IsReadOut, IsStopped}
-use Rattle.turn_run.specs.Course.{Course, IsCourse, bytes_in, end_of, log_of, output_of, plan_of, released_bytes, steps_of, stop_of}
-use Rattle.turn_run.specs.Gates.{IsLimit, IsWithheldFrom, issued_by, kept, released_by, still_waiting}
+use Rattle.turn_run.specs.Closings.{HasEnded, HasStopped, IsReadOut, IsStopped}
+use Rattle.turn_run.specs.Course.{Course, IsCourse, bytes_in, end_of, output_of, plan_of, released_bytes, steps_of, stop_of}
+use Rattle.turn_run.specs.Gates.{IsWithheldFrom, issued_by, kept, released_by, still_waiting}
 use Rattle.turn_run.specs.Runs.{AllTaken, HasCome, HasCrashed, HasReleased, IsAt, bytes_between, with_released}
 use Rattle.turn_run.proofs.CourseLaws.{is_plan, issued_IsPrefix, issued_all, length_log, reach_whole}
 use Rattle.turn_run.proofs.LeastLaws.{least-each}

@@ -1,14 +1,14 @@
 -- What the turns of a period move, and where they lead.
-use Rattle.std.proofs.Common.{◌≡◌, ◌⊎◌, inl, inr, ℕ, ◌+◌, ◌-◌, ◌*◌, ◌<◌, ◌≤◌, Bool, true, false, cond, List, [], ◌∷◌, ◌++◌, length, take, drop, Some, refl, sym, ap, subst, ◌∙◌, arith}
+use Rattle.std.proofs.Common.{◌≡◌, ◌⊎◌, inl, inr, ℕ, ◌+◌, ◌-◌, ◌*◌, ◌<◌, ◌≤◌, true, cond, List, [], ◌++◌, length, take, drop, refl, sym, ap, subst, ◌∙◌, arith}
 use Rattle.std.specs.Prelude.{get_or, slice_index}
 use Rattle.std.specs.List.{All, Contains}
 use Rattle.std.proofs.Math.Seq.{take-add}
-use Rattle.std.proofs.lemmas.List.{drop_all, drop-drop, drop-map, drop-take, length-take, take-map, take_more}
+use Rattle.std.proofs.lemmas.List.{drop_all, drop-drop, drop-map, length-take, take_more}
 use Rattle.std.proofs.lemmas.List.Elements.{All-contains, All-push}
 use Rattle.after_edge.specs.Sink.{Telling, Writes}
 use Rattle.after_edge.proofs.SinkLaws.{Adds-then, Writes-nothing, Writes-same, Writes-then}
 use Rattle.after_edge.proofs.FaultLaws.{Rose-later}
-use Rattle.gate_core.specs.Core.{CoreState, Append, Break, Close, TakeNext, after_event, approves, IsSound}
+use Rattle.gate_core.specs.Core.{CoreState, Append, Break, Close, TakeNext, after_event, approves}
 use Rattle.gate_core.specs.Hub.{HubState}
 use Rattle.gate_core.proofs.CoreLaws.{event_IsSound, set_grows}
 use Rattle.output_gate.specs.Gate.{GateState}
@@ -26,7 +26,7 @@ use Rattle.turn_run.specs.Course.{Course, bytes_in, log_of, output_of, plan_of}
 use Rattle.turn_run.specs.Endings.{end_in}
 use Rattle.turn_run.specs.Gates.{Gates}
 use Rattle.turn_run.specs.Closings.{IsReadOut}
-use Rattle.turn_run.specs.Periods.{IsBehind, IsIdle, IsStill, Moves}
+use Rattle.turn_run.specs.Periods.{IsIdle, IsStill, Moves}
 use Rattle.turn_run.specs.Replicas.{Follows, after_turn}
 use Rattle.turn_run.specs.Runs.{AllRead, AllTaken, HasBroken, HasCome, HasCrashed, HasReleased, IsAt, IsBesides, Lessens, LessensRead, Reads, Records, bytes_between, turns_left, unread, with_released}
 use Rattle.turn_run.specs.Sources.{StillToCome, items_left}

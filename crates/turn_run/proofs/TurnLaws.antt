@@ -1,26 +1,23 @@
 -- A turn of the gate, where the core stands.
-use Rattle.std.proofs.Common.{◌≡◌, ◌⊎◌, inl, inr, ℕ, zero, suc, ◌+◌, ◌-◌, ◌<◌, ◌≤◌, true, false, Bool, List, [], length, take, drop, refl, sym, ap, subst, ◌∙◌, arith}
-use Rattle.std.specs.Prelude.{min, slice_index}
+use Rattle.std.proofs.Common.{◌≡◌, ◌⊎◌, inl, inr, ℕ, ◌+◌, ◌<◌, ◌≤◌, true, false, Bool, List, [], length, take, drop, refl, sym, ap, subst, ◌∙◌, arith}
+use Rattle.std.specs.Prelude.{slice_index}
 use Rattle.std.specs.List.{All}
 use Rattle.std.proofs.lemmas.Bool.{cases_lt}
 use Rattle.std.proofs.lemmas.List.{length-drop, nil_from_length}
 use Rattle.std.proofs.lemmas.Option.{slice_get_cases}
 use Rattle.std.proofs.lemmas.List.Elements.{All-from_get_or, All-get_or}
-use Rattle.after_edge.specs.Fault.{Rose}
 use Rattle.after_edge.specs.Sink.{Telling, Adds, Writes, WritesPart}
 use Rattle.after_edge.proofs.SinkLaws.{Writes-same, WritesPart-same}
-use Rattle.run_events.specs.Record.{IsRecord, number, reach}
-use Rattle.gate_core.specs.declared.verdict.Verdict.{Verdict}
-use Rattle.gate_core.specs.Core.{CoreState, Break, May, after_event, reached, IsSound}
+use Rattle.gate_core.specs.Core.{CoreState, Break, May, IsSound}
 use Rattle.gate_core.specs.Hub.{HubState, approved_at, verdict_at}
-use Rattle.gate_core.specs.Follow.{approvals, hub_of}
+use Rattle.gate_core.specs.Follow.{approvals}
 use Rattle.gate_core.proofs.CoreLaws.{event_IsSound}
 use Rattle.output_gate.specs.Gate.{GateState, count_below, with_failure, with_release}
 use Rattle.output_gate.proofs.GateLaws.{count_below-within}
 use Rattle.turn_run.specs.declared.parts.Parts.{Parts}
 use Rattle.any_machine.specs.Recording.{Recording}
 use Rattle.turn_run.specs.Following.{Following}
-use Rattle.turn_run.specs.Course.{Course, IsCourse, Agrees, log_of, plan_of}
+use Rattle.turn_run.specs.Course.{Course, IsCourse, Agrees, plan_of}
 use Rattle.turn_run.specs.Gates.{Gates, IsLimit, least_approved, refusals, withheld_from}
 use Rattle.turn_run.specs.Replicas.{Follows}
 use Rattle.turn_run.specs.Runs.{AllTaken, HasBroken, HasReleased, IsAt, bytes_between, with_released}

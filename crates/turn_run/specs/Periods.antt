@@ -1,5 +1,5 @@
 -- What the turns of a period move, and how followers read to the close.
-use Rattle.std.specs.Prelude.{◌≡◌, ◌⊎◌, ℕ, ◌≤◌, ◌<◌, Bool, true, List, [], length, slice_index}
+use Rattle.std.specs.Prelude.{◌≡◌, ◌⊎◌, ℕ, ◌≤◌, ◌<◌, true, List, [], length, slice_index}
 use Rattle.gate_core.specs.Core.{CoreState}
 use Rattle.gate_core.specs.Hub.{HubState}
 use Rattle.any_machine.specs.Recording.{Recording}

@@ -1,7 +1,7 @@
 -- A run under way, where the core stands, and what each turn makes of it.
-use Rattle.std.specs.Prelude.{◌≡◌, ◌⊎◌, ℕ, ◌+◌, ◌-◌, ◌*◌, ◌≤◌, ◌<◌, ◌==◌, Bool, true, false, if◌then◌else◌, List, [], ◌∷◌, ◌++◌, length, take, drop, is_some, sum_by, slice_index}
+use Rattle.std.specs.Prelude.{◌≡◌, ◌⊎◌, ℕ, ◌+◌, ◌-◌, ◌*◌, ◌≤◌, ◌<◌, Bool, true, false, if◌then◌else◌, List, [], ◌∷◌, length, take, drop, is_some, sum_by, slice_index}
 use Rattle.after_edge.specs.Fault.{Rose}
-use Rattle.after_edge.specs.Sink.{Telling, Adds, Writes, WritesPart}
+use Rattle.after_edge.specs.Sink.{Telling, Adds, Writes}
 use Rattle.gate_core.specs.Core.{CoreState, Append, Close, Break, IsSound, May, after_event}
 use Rattle.gate_core.specs.Hub.{HubState}
 use Rattle.output_gate.specs.Gate.{GateState, count_below, with_release}
@@ -14,9 +14,9 @@ use Rattle.turn_run.specs.declared.reading.Turn.TheVariants as turn
 use Rattle.any_machine.specs.Recording.{Recording}
 use Rattle.turn_run.specs.Following.{Following}
 use Rattle.turn_run.specs.Sources.{StillToCome, items_left}
-use Rattle.turn_run.specs.Course.{Course, log_of, output_of, bytes_in, plan_of, released_bytes}
+use Rattle.turn_run.specs.Course.{Course, log_of, output_of, bytes_in, plan_of}
 use Rattle.turn_run.specs.Replicas.{Follows, after_turn}
-use Rattle.turn_run.specs.Gates.{Gates, issued_by, least_approved, refusals, released_by, withheld_from}
+use Rattle.turn_run.specs.Gates.{Gates, issued_by, least_approved, refusals, withheld_from}
 use Rattle.turn_run.specs.Endings.{end_in}
 
 -- so many bytes are released

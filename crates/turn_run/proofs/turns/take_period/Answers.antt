@@ -1,4 +1,4 @@
-use Rattle.std.proofs.Common.{◌≡◌, ◌<◌, length, take, sym, subst, ap, ◌∙◌, arith}
+use Rattle.std.proofs.Common.{◌≡◌, length, subst, ap, arith}
 use Rattle.std.proofs.lemmas.List.{take_all}
 use Rattle.gate_core.specs.Hub.{HubState}
 use Rattle.run_settings.specs.Patterns.{IsPattern}

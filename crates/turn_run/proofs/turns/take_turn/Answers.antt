@@ -1,4 +1,4 @@
-use Rattle.std.proofs.Common.{◌≡◌, ◌<◌, length, sym, subst, arith}
+use Rattle.std.proofs.Common.{◌<◌, length, sym, subst, arith}
 use Rattle.run_settings.specs.Patterns.{IsLetter}
 use Rattle.turn_run.specs.Periods.{Moves}
 use Rattle.turn_run.proofs.PeriodLaws.{comes_released, crashes, gate_moves, read_comes, reader_moves, recorded, recorder_moves}

@@ -1,4 +1,4 @@
-use Rattle.std.proofs.Common.{◌≡◌, ◌≤◌, ◌<◌, length, sym, ap, arith}
+use Rattle.std.proofs.Common.{arith}
 use Rattle.turn_run.proofs.StopLaws.{besides-then, read_more}
 use Rattle.turn_run.proofs.parts.Parts.read_all.Goals as goal
 

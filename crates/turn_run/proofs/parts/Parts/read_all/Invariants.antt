@@ -1,5 +1,3 @@
-use Rattle.std.proofs.Common.{◌≡◌, ◌<◌, ℕ}
-use Rattle.std.specs.Prelude.{slice_index}
 use Rattle.gate_core.specs.Core.{CoreState}
 use Rattle.turn_run.specs.Course.{Course}
 use Rattle.turn_run.specs.Periods.{HasReadSome}
