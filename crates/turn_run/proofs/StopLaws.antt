@@ -34,15 +34,6 @@ others_stay c now reader less other all = by (nat_eq other reader) refl
     by false is = get_or-set_other now.taken reader other (slice_index now.taken reader + 1) 0 (eqb-false other reader is) ∙ all
 
 module _ {M F : Type 0} (f : Following F) (c : Course) (core : CoreState) where
-  -- none has read on
-  pub reads_none : (parts : Parts M F) → IsFollowed f c core parts → HasRead f c core parts
-  reads_none parts follows = record {
-    next = core;
-    follows = follows;
-    same = record { appended = refl; closed = refl; failed = refl; released = refl };
-    others = λ other all. all;
-  }
-
   -- one record more
   pub read_on : (mid after : Parts M F) (reader : ℕ) (has : HasRead f c core mid) → (slice_index has.next.taken reader < has.next.appended) × IsFollowed f c (after_turn c has.next reader) after → HasRead f c core after
   read_on mid after reader has took = record {
