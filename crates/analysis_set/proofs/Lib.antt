@@ -1,1 +1,3 @@
+pub mod GuestLaws
 pub mod LineLaws
+mod PartLaws
