@@ -13,3 +13,6 @@ pub use analysis::Analysis;
 pub use any_analysis::AnyAnalysis;
 pub use head::{RunFacts, report_head};
 pub use part::report_part;
+
+#[cfg(test)]
+mod tests;

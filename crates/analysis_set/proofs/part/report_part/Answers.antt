@@ -10,15 +10,15 @@ pub returns-in-Err-put_more-clause-err : goal.returns-in-Err-put_more-clause-err
 returns-in-Err-put_more-clause-err g c h stands =
     let a = c.args.analysis.now in
     let is = counted_line c.as_bytes.result.now _ (kind_made_of (made_of a)) _ _ (findings_made (kib_of a) (made_of a) h)
-        (c.as_bytes.ensures ∙ c.findings-counted.ensures) c.kind-kind.ensures (c.count.ensures.seen h stands) (c.first.ensures.seen h stands) in
+    (c.as_bytes.ensures ∙ c.findings-counted.ensures) c.kind-kind.ensures (c.count.ensures.seen h stands) (c.first.ensures.seen h stands) in
     let line = Writes-same g.O.Sink.told _ _ is c.in-Ok.ensures.ok in
     WritesPart-more g.O.Sink.told _ _ _ _ (WritesPart-then g.O.Sink.told _ c.put.new.self _ _ _ line (c.in-Err-put_more.ensures.err h stands))
 
 pub returns-clause-err : goal.returns-clause-err
-returns-clause-err g c = on_err_weaker c.put_findings.result (λ part h stands. 
+returns-clause-err g c = on_err_weaker c.put_findings.result (λ part h stands.
     let a = c.args.analysis.now in
     let is = counted_line c.as_bytes.result.now _ (kind_made_of (made_of a)) _ _ (findings_made (kib_of a) (made_of a) h)
-        (c.as_bytes.ensures ∙ c.findings-counted.ensures) c.kind-kind.ensures (c.count.ensures.seen h stands) (c.first.ensures.seen h stands) in
+    (c.as_bytes.ensures ∙ c.findings-counted.ensures) c.kind-kind.ensures (c.count.ensures.seen h stands) (c.first.ensures.seen h stands) in
     let line = Writes-same g.O.Sink.told _ _ is c.in-Ok.ensures.ok in
     let more = Writes-then g.O.Sink.told _ c.put.new.self c.put_more.new.out _ _ line (c.in-Ok-put_more.ensures.ok h stands) in
     WritesPart-then g.O.Sink.told _ c.put_more.new.out _ _ _ more (rw (c.kept.ensures.seen h stands, c.kind-kind.ensures) at part)) c.put_findings.ensures.err
