@@ -1,4 +1,5 @@
 pub mod ComingLaws
+pub mod FinishLaws
 pub mod MoveLaws
 pub mod StoreLaws
 pub mod TurnLaws

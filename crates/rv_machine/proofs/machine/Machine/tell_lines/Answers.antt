@@ -26,6 +26,6 @@ returns-else-bits-self c =
     record {
       gives = λ items is.
           let f = told o.left o.lines o.cpu o.board o.board items c.lines-bits.result c.lines-bits.ensures c.if-bits-self.false (subst (λ p. Awaits p o.left o.lines o.cpu o.board items) c.requires is) in
-          record { rest = f.rest; are = f.are ∙ ap (λ i. i ∷ f.rest) (sym item); to_come = f.after };
-      moves = omega (arith, weight);
+          record { rest = f.rest; first = f.are ∙ ap (λ i. i ∷ f.rest) (sym item); to_come = f.after };
+      moves = record { few = omega arith; less = omega (arith, weight) };
     }
