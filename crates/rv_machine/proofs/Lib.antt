@@ -1,4 +1,5 @@
 pub mod ComingLaws
+pub mod EndLaws
 pub mod FinishLaws
 pub mod MoveLaws
 pub mod StoreLaws

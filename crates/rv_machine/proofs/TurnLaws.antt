@@ -175,9 +175,9 @@ module _ (left lines : ℕ) (s : State) (b after : Board) (items : List Item) wh
 
   -- no step is left, or the guest ended the run, or the end was given
   pub limited : left ≡ 0 → (left' lines' : ℕ) → Awaits Between left lines s b items → Follows (end_item s.step Limit) items (λ rest. Awaits Over left' lines' s b rest)
-  limited no left' lines' is = record {
+  limited spent left' lines' is = record {
     rest = [];
-    are = is.are ∙ ap (λ n. coming is.script Between n s.step lines s is.state is.words) no ∙ coming-limit is.script s.step lines s is.state is.words;
+    are = is.are ∙ ap (λ n. coming is.script Between n s.step lines s is.state is.words) spent ∙ coming-limit is.script s.step lines s is.state is.words;
     after = after_end Between left left' lines lines' s b items refl refl is;
   }
 
