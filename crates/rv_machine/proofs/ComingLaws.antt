@@ -1,16 +1,15 @@
 -- How what is still to come goes from phase to phase.
-use Rattle.std.proofs.Common.{◌≡◌, ℕ, suc, ◌+◌, List, [], ◌∷◌, ◌++◌, map, Option, None, Some, Bool, true, false, refl, sym, ap, subst, ◌∙◌, arith, cond, eq-eqb}
+use Rattle.std.proofs.Common.{◌≡◌, ℕ, suc, List, [], ◌∷◌, ◌++◌, map, Option, None, Some, true, refl, sym, ap, subst, ◌∙◌, arith, cond, eq-eqb}
 use Rattle.std.proofs.lemmas.Bool.Decides.{nat_tests}
-use Rattle.std.specs.Prelude.{◌==◌, IsSome, if◌then◌else◌}
+use Rattle.std.specs.Prelude.{IsSome}
 use Rattle.memory_map.specs.Device.{is_device}
 use Rattle.run_events.specs.declared.event.Event.{Event}
 use Rattle.run_events.specs.declared.item.Item.{Item}
 use Rattle.run_events.specs.declared.record.Record.TheVariants.{Lines as LinesRecord, Load as LoadRecord}
 use Rattle.run_events.specs.declared.record.EndCause.{EndCause}
-use Rattle.run_events.specs.declared.record.EndCause.TheVariants.{Limit, Power}
+use Rattle.run_events.specs.declared.record.EndCause.TheVariants.{Limit}
 use Rattle.run_events.specs.declared.supply.DmaWord.{DmaWord}
-use Rattle.run_events.specs.declared.supply.Need as need
-use Rattle.run_events.specs.declared.supply.Need.TheVariants.{Load, Nothing}
+use Rattle.run_events.specs.declared.supply.Need.TheVariants.{Load}
 use Rattle.run_events.specs.declared.supply.Supplied.{Supplied}
 use Rattle.any_machine.specs.Log.{plain_item, word_record, lines_records, reach_items, items as all_items}
 use Rattle.any_machine.specs.Machine.{power_status}
@@ -25,7 +24,7 @@ use Rattle.machine_model.specs.Board as model
 use Rattle.machine_model.specs.Board.{BoardState}
 use Rattle.machine_model.specs.Image.{Image}
 use Rattle.machine_model.specs.Script.{Script}
-use Rattle.rv_machine.specs.Phase.{Supplies, items_of, phase_after}
+use Rattle.rv_machine.specs.Phase.{Supplies, phase_after}
 use Rattle.rv_machine.specs.ToCome.{coming}
 use Rattle.rv_machine.specs.declared.phase.Phase.{Phase}
 use Rattle.rv_machine.specs.declared.phase.Phase.TheVariants.{Between, Words, Lines, Need, Given, Ending, Over}

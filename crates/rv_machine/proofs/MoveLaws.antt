@@ -1,5 +1,5 @@
 -- What a turn moves, where part of it was done before.
-use Rattle.std.proofs.Common.{◌≡◌, ℕ, false, ◌+◌, ◌/◌, ◌<◌, ◌≤◌, List, Option, None, Some, ap, ◌∙◌, arith}
+use Rattle.std.proofs.Common.{◌≡◌, ℕ, false, ◌+◌, ◌/◌, ◌≤◌, List, Option, None, Some, ap, ◌∙◌, arith}
 use Rattle.run_events.specs.declared.item.Item.{Item}
 use Rattle.rv_machine.specs.Phase.{is_over}
 use Rattle.rv_machine.specs.ToCome.{Found, Moves, ToCome, Turned, to_do}

@@ -1,7 +1,6 @@
 -- A hart and a board that go from phase to phase: what was to come is to come, or the next item is given.
-use Rattle.std.proofs.Common.{◌≡◌, ℕ, suc, ◌+◌, ◌-◌, List, [], ◌∷◌, ◌++◌, length, drop, slice_get, Option, None, Some, true, false, refl, sym, ap, subst, ◌∙◌, arith, add-one}
+use Rattle.std.proofs.Common.{◌≡◌, ℕ, suc, ◌+◌, List, [], ◌∷◌, length, drop, slice_get, None, Some, true, refl, sym, ap, subst, ◌∙◌, arith}
 use Rattle.std.specs.List.{AllByRecursion}
-use Rattle.run_events.specs.declared.event.Event.{Event}
 use Rattle.run_events.specs.declared.item.Item.{Item}
 use Rattle.memory_map.proofs.RamLaws.{InRam-in_ram}
 use Rattle.memory_map.specs.Ram.{in_ram}

@@ -1,5 +1,5 @@
 -- A step begins, or the limit is reached.
-use Rattle.std.proofs.Common.{◌≡◌, ℕ, suc, [], ◌+◌, refl, sym, ap, subst, ◌∙◌, ◌∷◌, ◌-◌, arith}
+use Rattle.std.proofs.Common.{◌≡◌, suc, [], ◌+◌, refl, sym, ap, subst, ◌-◌, arith}
 use Rattle.run_events.specs.declared.record.EndCause.TheVariants.{Limit}
 use Rattle.hart_model.specs.State.{State}
 use Rattle.machine_model.specs.Board.{at_step, words_before}

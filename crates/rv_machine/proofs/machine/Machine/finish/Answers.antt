@@ -1,5 +1,5 @@
 -- A step accesses no device but at a register.
-use Rattle.std.proofs.Common.{◌≡◌, ◌+◌, refl, subst, ◌∙◌, sym, ap, arith}
+use Rattle.std.proofs.Common.{◌≡◌, ◌+◌, refl, subst, sym, arith}
 use Rattle.run_events.specs.declared.event.Event.{Event}
 use Rattle.hart_model.specs.State.{State}
 use Rattle.hart_model.proofs.DeviceLaws.{IsAtRegister, cpu_at}
