@@ -14,12 +14,12 @@ use Rattle.board_model.proofs.SoundBoard.{way_event}
 use Rattle.hart_model.proofs.CountLaws.{cpu_counts}
 use Rattle.hart_model.specs.State.{State}
 use Rattle.hart_model.specs.Step.{cpu, needs}
-use Rattle.machine_model.specs.Board.{BoardState, IsUnderWay}
+use Rattle.machine_model.specs.Board.{BoardState, IsUnderWay, board_lines}
 use Rattle.machine_model.specs.Script.{Script}
 use Rattle.rv_devices.specs.Stands.{Stands, words_due}
 use Rattle.rv_devices.specs.declared.board.Board.{Board}
 use Rattle.rv_machine.specs.Phase.{Supplies, awaits, inside, is_over, items_left, items_of, phase_after, sends}
-use Rattle.rv_machine.specs.ToCome.{Awaits, Gives, MayBeDue, Moves, ToCome, coming, to_do}
+use Rattle.rv_machine.specs.ToCome.{Awaits, Gives, HasTold, MayBeDue, Moves, ToCome, coming, to_do}
 use Rattle.rv_machine.specs.declared.machine.Machine.{Machine}
 use Rattle.rv_machine.specs.declared.phase.Phase.{Phase}
 use Rattle.rv_machine.specs.declared.phase.Phase.TheVariants.{Between, Words, Lines, Need, Given, Ending, Over}
@@ -116,6 +116,10 @@ none_due : (o : Option ℕ) → MayBeDue (phase_after o) []
 none_due None = refl
 none_due (Some status) = refl
 
+pub none_told : (o : Option ℕ) (lines shown : ℕ) → HasTold (phase_after o) lines shown
+none_told None lines shown = tt
+none_told (Some status) lines shown = tt
+
 -- it counts one
 pub counted_by : (s after : State) (lines : ℕ) (supplied : Option Supplied) (event : Event) → cpu s lines supplied ≡ (event, after) → after.step ≡ s.step + 1
 counted_by s after lines supplied event does =
@@ -147,6 +151,7 @@ finished phase supplied left lines s after b next items event within given does 
         way = way_event is.script s.step after.ram is.state event (subst (λ n. IsUnderWay n is.state.activity) (sym sized) is.way);
         held = tt;
         due = none_due o;
+        told = none_told o lines (board_lines is.script after.step state);
         are = ap (λ n. coming is.script (phase_after o) left n lines after state []) (sym counted);
       };
     }

@@ -1,3 +1,4 @@
+pub mod BatchLaws
 pub mod ComingLaws
 pub mod EndLaws
 pub mod FinishLaws

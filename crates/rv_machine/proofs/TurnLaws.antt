@@ -62,6 +62,7 @@ before_all image script disk ram_kib limit s b start stands =
       way = tt;
       held = tt;
       due = refl;
+      told = tt;
       are = coming-all image script disk ram_kib limit ∙ ap (λ (t : State). coming script Between limit t.step 0 t (reset_board (padded disk)) []) (sym start);
     }
 
@@ -77,6 +78,7 @@ after_end phase left left' lines lines' s b items outside quiet is =
       way = is.way;
       held = tt;
       due = refl;
+      told = tt;
       are = sym (coming-over is.script left' s.step lines' s is.state []);
     }
 
@@ -92,6 +94,7 @@ module _ (left lines : ℕ) (s : State) (b after : Board) (items : List Item) wh
     way = way_at_step (length s.ram) s.step is.state is.way;
     held = words_are_held (length s.ram) s.step is.state is.way;
     due = tt;
+    told = tt;
     are = is.are ∙ coming-begin is.script left s.step lines s is.state is.words;
   }
 
@@ -110,6 +113,7 @@ module _ (left lines : ℕ) (s : State) (b after : Board) (items : List Item) wh
         way = is.way;
         held = tt;
         due = refl;
+        told = tt;
         are = is.are ∙ ap (coming is.script Words left s.step lines s is.state) same ∙ coming-words is.script left s.step lines s is.state;
       }
       by (word ∷ words) same = let no : None ≡ Some word = none is.script (s.step + 1) is.words is.state is.stands ∙ ap (λ l. slice_get l 0) same in absurd (cc)
@@ -125,6 +129,7 @@ module _ (left lines : ℕ) (s : State) (b after : Board) (items : List Item) wh
     way = is.way;
     held = is.held;
     due = is.due;
+    told = sym (are is.script s.step is.words is.state is.stands) ∙ same;
     are = is.are ∙ ap (coming is.script Lines left s.step lines s is.state) is.due ∙ coming-same is.script left s.step lines bits s is.state (are is.script s.step is.words is.state is.stands) same ∙ ap (coming is.script Need left s.step lines s is.state) (sym is.due);
   }
 
@@ -142,6 +147,7 @@ module _ (left lines : ℕ) (s : State) (b after : Board) (items : List Item) wh
       way = is.way;
       held = tt;
       due = refl;
+      told = sym (are is.script s.step is.words is.state is.stands);
       are = refl;
     };
   }
@@ -168,6 +174,7 @@ module _ (left lines : ℕ) (s : State) (b after : Board) (items : List Item) wh
           way = way_after_load (length s.ram) is.script s.step is.state address is.way;
           held = tt;
           due = refl;
+          told = tt;
           are = refl;
         };
       }
@@ -219,6 +226,7 @@ module _ (left lines : ℕ) (s : State) (b after : Board) (items : List Item) wh
               way = subst (λ n. IsUnderWay n is.state.activity) (sym sized) is.way;
               held = subst (λ n. AllByRecursion (IsDiskWord n) words) (sym sized) held.1;
               due = tt;
+              told = tt;
               are = refl;
             };
           }

@@ -1,5 +1,5 @@
 -- What is still to come of a machine's run, and what a call gives of it.
-use Rattle.std.specs.Prelude.{◌≡◌, ℕ, false, ◌+◌, ◌/◌, ◌<◌, ◌≤◌, List, [], ◌∷◌, length, Option, None, Some}
+use Rattle.std.specs.Prelude.{◌≡◌, ℕ, false, ◌+◌, ◌*◌, ◌/◌, ◌<◌, ◌≤◌, List, [], ◌∷◌, length, Option, None, Some}
 use Rattle.std.specs.List.{AllByRecursion}
 use Rattle.run_events.specs.declared.item.Item.{Item}
 use Rattle.run_events.specs.declared.supply.DmaWord.{DmaWord}
@@ -8,7 +8,7 @@ use Rattle.any_machine.specs.Recording.{Recording, GivesItem}
 use Rattle.board_model.specs.TheBoard.{board}
 use Rattle.hart_model.specs.Machine.{hart}
 use Rattle.hart_model.specs.State.{State}
-use Rattle.machine_model.specs.Board.{BoardState, IsDiskWord, IsUnderWay}
+use Rattle.machine_model.specs.Board.{BoardState, IsDiskWord, IsUnderWay, board_lines}
 use Rattle.machine_model.specs.Script.{Script}
 use Rattle.rv_devices.specs.Stands.{Stands, words_due}
 use Rattle.rv_devices.specs.declared.board.Board.{Board}
@@ -37,6 +37,16 @@ MayBeDue (Given supplied) words = words ≡ []
 MayBeDue (Ending cause) words = words ≡ []
 MayBeDue Over words = words ≡ []
 
+-- the lines that are told are those of the board
+abbrev pub HasTold : Phase → (lines shown : ℕ) → Type 0
+HasTold Between lines shown = Unit {0}
+HasTold Words lines shown = Unit {0}
+HasTold Lines lines shown = Unit {0}
+HasTold Need lines shown = shown ≡ lines
+HasTold (Given supplied) lines shown = Unit {0}
+HasTold (Ending cause) lines shown = Unit {0}
+HasTold Over lines shown = Unit {0}
+
 -- A hart and a board in a phase of a step, with so many steps left after the one that has begun, and these lines held:
 -- the board gives RAM what it may take, and these items are still to come.
 pub record Awaits (phase : Phase) (left lines : ℕ) (s : State) (b : Board) (items : List Item) : Type 0 where
@@ -47,6 +57,7 @@ pub record Awaits (phase : Phase) (left lines : ℕ) (s : State) (b : Board) (it
   pub way : IsUnderWay (length s.ram) state.activity
   pub held : AllByRecursion (IsDiskWord (length s.ram)) words
   pub due : MayBeDue phase words
+  pub told : HasTold phase lines (board_lines script s.step state)
   pub are : items ≡ coming script phase left s.step lines s state words
 
 -- these items are still to come of a machine
@@ -73,9 +84,9 @@ pub record GoesOn (before after : Machine) : Type 0 where
   pub block : after.cpu.step / 256 ≡ before.cpu.step / 256
   pub less : to_do after ≤ to_do before
 
--- an item was made, after at most one step
+-- an item was made, at the latest once the number of steps is a multiple of 256
 pub record Gave (before after : Machine) : Type 0 where
-  pub few : after.cpu.step ≤ before.cpu.step + 1
+  pub few : after.cpu.step ≤ before.cpu.step / 256 * 256 + 256
   pub less : to_do after < to_do before
 
 abbrev pub Moves : Option Item → Machine → Machine → Type 0

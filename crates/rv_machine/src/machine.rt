@@ -18,7 +18,7 @@ ghost use Rattle.rv_machine.specs.Phase.{Supplies, awaits, inside, is_over, send
 ghost use Rattle.rv_machine.specs.declared.phase.Phase.TheVariants.{Between, Over, Words, Lines, Need as Asks};
 
 use crate::phase::Phase;
-use crate::told::{after_power, plain, reach_item, word_item};
+use crate::told::{after_power, mark_item, plain, reach_item, word_item};
 use any_machine::{Advance, Recorder};
 use elf_image::Image;
 use in_script::Script;
@@ -134,7 +134,7 @@ impl Machine {
             Phase::Between => self.begin(),
             Phase::Words => self.write_words(),
             Phase::Lines => self.tell_lines(),
-            Phase::Need => self.ask_need(),
+            Phase::Need => self.run_on(),
             Phase::Given { supplied } => self.finish(Some(supplied)),
             Phase::Ending { cause } => Some(self.end(cause)),
             Phase::Over => unreachable!(),
@@ -180,7 +180,7 @@ impl Machine {
         let bits = self.board.lines();
         self.phase = Phase::Need;
         if bits == self.lines {
-            self.ask_need()
+            self.run_on()
         } else {
             self.lines = bits;
             Some(plain(Record::Lines {
@@ -188,6 +188,23 @@ impl Machine {
                 bits,
             }))
         }
+    }
+
+    // Does the step and those after it as long as they are plain ones and nothing else is due; or it is another one.
+    fn run_on(&mut self) -> Option<Item>
+        requires { self.old.phase ≡ Asks }
+        ensures { Turned result self.old self.new }
+    {
+        let step = self.cpu.steps();
+        let more = self.board.quiet_for().min(self.left).min(255 - step % 256);
+        let done = self.cpu.run_plain(self.lines, more + 1);
+        if done == 0 {
+            return self.ask_need();
+        }
+        self.board.pass(done - 1);
+        self.left -= done - 1;
+        self.phase = Phase::Between;
+        mark_item(step + done)
     }
 
     // Does the step, or takes of the board what it has to be given.
