@@ -1,4 +1,5 @@
 //! The analysis of locks.
+ghost use Rattle.memory_map.specs.declared.TheConstants.{LEAST_RAM_KIB, MOST_RAM_KIB};
 ghost use Rattle.std.specs.Prelude.{◌≡◌, ℕ, ◌*◌, ◌<◌, ◌≤◌, List, [], ◌∷◌, ◌++◌, length, map, Option, None, Some, IfOk};
 ghost use Rattle.std.specs.Option.{option_map};
 ghost use Rattle.std.specs.List.{position_from};
@@ -63,8 +64,8 @@ impl Locks {
     /// Nothing seen yet, of a guest with `ram_kib` KiB of RAM; its image tells nothing of locks. It is the only call that
     /// takes memory.
     pub fn new(alloc: Global, _image: &Image, ram_kib: u32) -> Result<Locks, NoMemory>
-        requires least { 64 ≤ ram_kib }
-        requires most { ram_kib ≤ 16384 }
+        requires least { LEAST_RAM_KIB ≤ ram_kib }
+        requires most { ram_kib ≤ MOST_RAM_KIB }
         ensures seen { IfOk result (λ l. Stands l []) }
         ensures size { IfOk result (λ l. l.ram_kib ≡ ram_kib) }
         ensures made { IfOk result (λ l. make_now l ≡ make_of kind.Locks _image.now) }
