@@ -47,12 +47,16 @@ pub trait Hart {
         ensures plain { IsTrue result → machine.needs self.old lines ≡ Nothing }
         ensures step { IsTrue result → machine.step self.old lines None ≡ (event.new, self.new) }
         ensures size { ram_size self.new ≡ ram_size self.old }
-        ensures fits { (ram_kib : ℕ) → IsTrue result → ram_size self.old ≡ 1024 * ram_kib → Fits ram_kib event.new };
+        ensures fits { (ram_kib : ℕ)
+            → IsTrue result
+            → ram_size self.old ≡ 1024 * ram_kib
+            → Fits ram_kib event.new };
 
     /// The disk writes a word into RAM before the next step. It answers what that shows.
     fn dma(&mut self, address: u32, word: u32, mark: u8) -> Event
         requires { IsTrue (machine.holds self.old address) }
-        ensures touch { machine.touch self.old (record { address = address; word = word; mark = mark }) ≡ (result, self.new) }
+        ensures touch { machine.touch self.old (record { address = address; word = word; mark = mark })
+            ≡ (result, self.new) }
         ensures size { ram_size self.new ≡ ram_size self.old }
         ensures fits { (ram_kib : ℕ) → ram_size self.old ≡ 1024 * ram_kib → Fits ram_kib result };
 

@@ -116,8 +116,11 @@ impl Coverage {
     /// The range with this index, in ascending order: its first address, and the one behind its last.
     pub fn range(&self, index: u64) -> (u32, u32)
         requires { index < length (ranges_now self.now) }
-        ensures now { slice_get (ranges_now self.now) index ≡ Some (record { from = result.0; to = result.1 }) }
-        ensures seen { (h : List Event) → Stands self.now h → slice_get (executed_ranges h) index ≡ Some (record { from = result.0; to = result.1 }) }
+        ensures now { slice_get (ranges_now self.now) index
+            ≡ Some (record { from = result.0; to = result.1 }) }
+        ensures seen { (h : List Event)
+            → Stands self.now h
+            → slice_get (executed_ranges h) index ≡ Some (record { from = result.0; to = result.1 }) }
     {
         find_range(&self.marks, index)
     }

@@ -170,7 +170,8 @@ impl Locks {
     }
 
     fn acquire(&mut self, step: u32, pc: u32, lock: u32) -> Option<Finding>
-        ensures finding { result ≡ option_map (finding_at step pc) (heard self.old (Some (announce.Acquire lock))) }
+        ensures finding { result
+            ≡ option_map (finding_at step pc) (heard self.old (Some (announce.Acquire lock))) }
         ensures state { self.new ≡ told_state self.old (Some (announce.Acquire lock)) }
     {
         self.name(lock);
@@ -189,7 +190,8 @@ impl Locks {
     }
 
     fn release(&mut self, step: u32, pc: u32, lock: u32) -> Option<Finding>
-        ensures finding { result ≡ option_map (finding_at step pc) (heard self.old (Some (announce.Release lock))) }
+        ensures finding { result
+            ≡ option_map (finding_at step pc) (heard self.old (Some (announce.Release lock))) }
         ensures state { self.new ≡ told_state self.old (Some (announce.Release lock)) }
     {
         self.name(lock);
@@ -219,7 +221,8 @@ impl Locks {
 
     #[tactic(auto, unfolding(analysis_model::specs::Locks::locks_kept))]
     fn add_guard(&mut self, start: u32, size: u32, place: usize)
-        ensures { self.new ≡ record self.old { guards = guards_with self.old.guards start size (Some place) } }
+        ensures { self.new
+            ≡ record self.old { guards = guards_with self.old.guards start size (Some place) } }
     {
         if self.guards.len() < KEPT {
             self.guards.push_reserved(Guard {

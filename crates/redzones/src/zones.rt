@@ -175,7 +175,8 @@ impl Redzones {
     }
 
     fn first_not_live(&self, from: u64, to: u64) -> Option<u32>
-        ensures { result ≡ least_in_ram self.now.ram_kib (λ a. not (is_live (use_in self.now.shade a))) from to }
+        ensures { result
+            ≡ least_in_ram self.now.ram_kib (λ a. not (is_live (use_in self.now.shade a))) from to }
     {
         self.shadow.first_of(from, to, NOT_LIVE)
     }

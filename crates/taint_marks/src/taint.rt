@@ -193,7 +193,8 @@ impl Taint {
     }
 
     fn first_marked(&self, from: u64, to: u64) -> Option<u32>
-        ensures { result ≡ least_in_ram self.now.ram_kib (λ a. is_marked (mark_now self.now (Byte a))) from to }
+        ensures { result
+            ≡ least_in_ram self.now.ram_kib (λ a. is_marked (mark_now self.now (Byte a))) from to }
     {
         self.shadow.first_of(from, to, u8::MAX)
     }
