@@ -43,6 +43,7 @@ pub struct Taint {
 }
 
 impl Model for Taint {
+    ghost use Rattle.memory_map.specs.declared.TheConstants.{MOST_RAM_KIB};
     ghost use Rattle.std.specs.Prelude.{◌≡◌, ◌*◌, ◌≤◌, length};
     ghost use Rattle.taint_marks.specs.Marks.{Marks};
 
