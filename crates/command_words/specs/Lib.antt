@@ -1,0 +1,4 @@
+pub mod Table
+pub mod Values
+pub mod Roles
+pub mod Drafts
