@@ -19,6 +19,7 @@ pub(crate) struct Draft<'a> {
     plain: [&'a str; 3],
     plain_count: usize,
     ghost within: { plain_count ≤ 3 },
+    ghost whole: { length values ≡ 9 },
 }
 
 impl<'a> Draft<'a> {

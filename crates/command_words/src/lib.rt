@@ -1,10 +1,12 @@
 //! Which words are which command.
 #![tactic(auto)]
 
+mod assembling;
 mod command;
 mod draft;
 mod fault;
 mod number;
+mod reading;
 mod table;
 mod value;
 
