@@ -1,6 +1,6 @@
 -- The value of an option, once it is kept.
-use Rattle.std.proofs.Common.{◌≡◌, ℕ, ◌+◌, ◌*◌, ◌<◌, ◌≤◌, ◌==◌, if◌then◌else◌, cond, List, length, set, get_or, Option, Some, None, is_some, option_map, inl, inr, refl, sym, ◌∙◌, ap, arith}
-use Rattle.std.specs.List.{count_by, sum_by}
+use Rattle.std.proofs.Common.{◌≡◌, ℕ, ◌+◌, ◌<◌, ◌≤◌, ◌==◌, if◌then◌else◌, cond, List, length, set, get_or, Option, Some, None, is_some, option_map, inl, inr, refl, sym, arith}
+use Rattle.std.specs.List.{count_by}
 use Rattle.std.proofs.lemmas.Bool.{cases_eq, eq-eqb, ne_eqb}
 use Rattle.std.proofs.lemmas.List.{get_or-set_other}
 use Rattle.std.proofs.lemmas.List.Sums.{sum_by-set, count_by-le-length}
@@ -27,8 +27,8 @@ pub put_values : (values : List (Option Given)) (setting other : Setting) (given
 put_values values setting other given whole =
     let below : place setting < length values = let h = place_below setting in omega arith in
     elim (cases_eq (place setting) (place other)) [
-      inl e ↦ rw (eq-eqb (place setting) (place other) e, get_or-set_at values (place setting) (place other) (Some given) None (sym e) below) refl
-    | inr ne ↦ rw (ne_eqb (place setting) (place other) ne, get_or-set_other values (place setting) (place other) (Some given) None (λ e. ne (sym e))) refl
+      | inl e ↦ rw (eq-eqb (place setting) (place other) e, get_or-set_at values (place setting) (place other) (Some given) None (sym e) below) refl
+      | inr ne ↦ rw (ne_eqb (place setting) (place other) ne, get_or-set_other values (place setting) (place other) (Some given) None (λ e. ne (sym e))) refl
     ]
 
 none_held : (o : Option Given) → option_map seen o ≡ None → is_some o ≡ is_some {T = Given} None

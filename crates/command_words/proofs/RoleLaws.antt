@@ -1,8 +1,7 @@
 -- Words that are read one after another are what the definition says they are.
-use Rattle.std.proofs.Common.{◌≡◌, ◌⊎◌, ℕ, zero, suc, ◌+◌, ◌-◌, ◌<◌, ◌≤◌, ◌==◌, nat_lt, Bool, true, false, not, ◌&&◌, ◌||◌, if◌then◌else◌, cond, List, [], ◌∷◌, ◌++◌, length, get_or, take, drop, map, String, Global, string_bytes, Option, Some, None, is_some, is_none, inl, inr, refl, sym, ◌∙◌, ap, subst, arith, append_assoc, append-nil, length-append}
-use Rattle.std.specs.List.{list_any}
+use Rattle.std.proofs.Common.{◌≡◌, ℕ, zero, suc, ◌+◌, ◌<◌, ◌≤◌, ◌==◌, Bool, true, false, not, ◌&&◌, ◌||◌, if◌then◌else◌, List, [], ◌∷◌, ◌++◌, length, get_or, drop, map, String, Global, string_bytes, Option, Some, None, is_some, is_none, inl, inr, refl, sym, ◌∙◌, ap, subst, arith, append_assoc, append-nil, length-append}
 use Rattle.std.proofs.lemmas.Bool.{and_parts, not_from_true, not_from_false, ltb-true, eqb-true, cases_Bool}
-use Rattle.std.proofs.lemmas.List.{at_drop_more, drop_all, get_or-map, length-map}
+use Rattle.std.proofs.lemmas.List.{at_drop_more, drop_all, get_or-map}
 use mathlib.Core.Path.{fun_ext}
 use Rattle.command_words.specs.declared.draft.Draft.{Draft}
 use Rattle.command_words.specs.declared.fault.WordsFault.{WordsFault}
@@ -12,8 +11,8 @@ use Rattle.command_words.specs.declared.table.CommandName.TheVariants.{Run, Reco
 use Rattle.command_words.specs.declared.table.Setting.{Setting}
 use Rattle.command_words.specs.declared.table.Setting.TheVariants.{Disk, Mode, With, Require, Ram, Steps, Log, Threads, Turns}
 use Rattle.command_words.specs.Table.{belongs, place, plain_count, setting_named}
-use Rattle.command_words.specs.Values.{◌>>=◌, is_option, is_plain, is_value}
-use Rattle.command_words.specs.Roles.{Role, Plain, Naming, Value, roles, is_setting, names, is_naming, has_name, found, plain_words, ends_open, option_of, meets_plain, may_stand, is_value_of, is_bad, number, first_bad}
+use Rattle.command_words.specs.Values.{◌>>=◌, is_option, is_value}
+use Rattle.command_words.specs.Roles.{Role, Plain, Naming, Value, roles, names, is_naming, has_name, found, plain_words, ends_open, option_of, may_stand, is_value_of, is_bad, number, first_bad}
 use Rattle.command_words.specs.Drafts.{held, plain_held, Holds, Advances, IsDraft, Refuses}
 
 -- ---- what a word is
@@ -70,11 +69,11 @@ known_by : (command : CommandName) (stood : Setting → Bool) (o : Option Settin
 known_by command stood None setting e = absurd (let h : Some setting ≡ None = sym e in cc)
 known_by command stood (Some s) setting e =
     elim (cases_Bool (belongs s command && not (stood s))) [
-      inl may ↦
-        let same : Some s ≡ Some setting = rw may at e in
-        let equal : s ≡ setting = cc in
-        (same, subst (λ (x : Setting). stood x ≡ false) equal (not_true (stood s) (and_parts (belongs s command) (not (stood s)) may).1))
-    | inr may_not ↦ absurd (let h : None ≡ Some setting = rw may_not at e in let g : Some setting ≡ None = sym h in cc)
+      | inl may ↦
+          let same : Some s ≡ Some setting = rw may at e in
+          let equal : s ≡ setting = cc in
+          (same, subst (λ (x : Setting). stood x ≡ false) equal (not_true (stood s) (and_parts (belongs s command) (not (stood s)) may).1))
+      | inr may_not ↦ absurd (let h : None ≡ Some setting = rw may_not at e in let g : Some setting ≡ None = sym h in cc)
     ]
 
 -- an option that may stand has not stood before
@@ -191,17 +190,17 @@ holds_option words old new n m name value setting holds known none plain values 
     let named : (s : Setting) → names s name ≡ (place setting == place s) = λ s. rw known refl in
     record {
       values = λ s.
-        values s
-        ∙ values_by (place setting == place s) (value, m) (held old s) (λ e. subst (λ (x : Setting). held old x ≡ None) (same_place setting s e) none)
-        ∙ ap (λ (o : Option (List ℕ × ℕ)). or_else o (if place setting == place s then Some (value, m) else None)) (holds.values s)
-        ∙ ap (λ (t : Bool). or_else (found words s) (if t then Some (value, m) else None)) (sym (named s))
-        ∙ sym (found-append words others s);
+          values s
+          ∙ values_by (place setting == place s) (value, m) (held old s) (λ e. subst (λ (x : Setting). held old x ≡ None) (same_place setting s e) none)
+          ∙ ap (λ (o : Option (List ℕ × ℕ)). or_else o (if place setting == place s then Some (value, m) else None)) (holds.values s)
+          ∙ ap (λ (t : Bool). or_else (found words s) (if t then Some (value, m) else None)) (sym (named s))
+          ∙ sym (found-append words others s);
       stood = λ s.
-        ap is_some (values s)
-        ∙ stood_by (place setting == place s) (value, m) (held old s)
-        ∙ ap (λ (b : Bool). b || ((place setting == place s) || false)) (holds.stood s)
-        ∙ ap (λ (t : Bool). has_name words s || (t || false)) (sym (named s))
-        ∙ sym (has_name-append words others s);
+          ap is_some (values s)
+          ∙ stood_by (place setting == place s) (value, m) (held old s)
+          ∙ ap (λ (b : Bool). b || ((place setting == place s) || false)) (holds.stood s)
+          ∙ ap (λ (t : Bool). has_name words s || (t || false)) (sym (named s))
+          ∙ sym (has_name-append words others s);
       plain = plain ∙ holds.plain ∙ sym (plain_words-append words others ∙ append-nil (plain_words words));
       closed = ends_open-append false words others;
     }
@@ -287,9 +286,9 @@ option_next command words before i old new word value setting below at next opti
       within = omega arith;
       same = value_first words i word value below at next option ∙ ap (λ (n : ℕ). pair ++ roles n None (drop (i + 1 + 1) words)) e ∙ ap (λ (n : ℕ). pair ++ roles (i + 2 + 2) None (drop n words)) f;
       good = λ later.
-        naming_good command before (i + 2) old word setting (Value (i + 2 + 1) word value ∷ later) holds known
-        ∙ good_word command (before ++ Naming (i + 2) word ∷ []) (Value (i + 2 + 1) word value) later taken
-        ∙ ap (λ (t : List Role). first_bad command t later) (append_assoc before (Naming (i + 2) word ∷ []) (Value (i + 2 + 1) word value ∷ []));
+          naming_good command before (i + 2) old word setting (Value (i + 2 + 1) word value ∷ later) holds known
+          ∙ good_word command (before ++ Naming (i + 2) word ∷ []) (Value (i + 2 + 1) word value) later taken
+          ∙ ap (λ (t : List Role). first_bad command t later) (append_assoc before (Naming (i + 2) word ∷ []) (Value (i + 2 + 1) word value ∷ []));
       holds = holds_option before old new (i + 2) (i + 2 + 1) word value setting holds named none kept values;
     }
 
@@ -316,9 +315,10 @@ has_read_more command words i j old new read next =
 
 pub refused_more : (command : CommandName) (words : List (List ℕ)) (i : ℕ) (old : Draft) (fault : WordsFault) (read : HasRead command words i old) → Refuses command read.before (roles (i + 2) None (drop i words)) fault → Refuses command [] (roles 2 None words) fault
 refused_more command words i old (Word n) read refused = ap (first_bad command []) read.same ∙ read.good (roles (i + 2) None (drop i words)) ∙ refused
-refused_more command words i old Missing read refused =
-    (ap (first_bad command []) read.same ∙ read.good (roles (i + 2) None (drop i words)) ∙ refused.0,
-     ap (ends_open false) read.same ∙ ends_open-append false read.before (roles (i + 2) None (drop i words)) ∙ ap (λ (b : Bool). ends_open b (roles (i + 2) None (drop i words))) read.holds.closed ∙ refused.1)
+refused_more command words i old Missing read refused = (
+  ap (first_bad command []) read.same ∙ read.good (roles (i + 2) None (drop i words)) ∙ refused.0,
+  ap (ends_open false) read.same ∙ ends_open-append false read.before (roles (i + 2) None (drop i words)) ∙ ap (λ (b : Bool). ends_open b (roles (i + 2) None (drop i words))) read.holds.closed ∙ refused.1,
+)
 
 pub has_read_all : (command : CommandName) (words : List (List ℕ)) (i : ℕ) (draft : Draft) → length words ≤ i → HasRead command words i draft → IsDraft command (roles 2 None words) draft
 has_read_all command words i draft over read =
@@ -328,3 +328,29 @@ has_read_all command words i draft over read =
       good = ap (first_bad command []) (read.same ∙ ap (λ (t : List Role). read.before ++ t) none) ∙ read.good [] ∙ no_word command read.before;
       holds = subst (λ (t : List Role). Holds t draft) (sym whole) read.holds;
     }
+
+not_false : (b : Bool) → not b ≡ false → b ≡ true
+not_false true e = refl
+not_false false e = absurd (let h : true ≡ false = e in cc)
+
+one_more : (command : CommandName) (before : List Role) (word : Role) → length (plain_words before) ≤ plain_count command → is_bad command before word ≡ false → length (plain_words (before ++ word ∷ [])) ≤ plain_count command
+one_more command before (Plain n word) within fine =
+    let below = may_stand_below command (length (plain_words before)) word (not_false _ fine) in
+    rw (plain_words-append before (Plain n word ∷ [])) (omega (arith, length-append (plain_words before) (word ∷ [])))
+one_more command before (Naming n name) within fine = rw (plain_words-append before (Naming n name ∷ []), append-nil (plain_words before)) within
+one_more command before (Value n name value) within fine = rw (plain_words-append before (Value n name value ∷ []), append-nil (plain_words before)) within
+
+plain_within : (command : CommandName) (before words : List Role) → length (plain_words before) ≤ plain_count command → first_bad command before words ≡ None → length (plain_words (before ++ words)) ≤ plain_count command
+plain_within command before [] within good = rw (append-nil before) within
+plain_within command before (word ∷ words) within good =
+    elim (cases_Bool (is_bad command before word)) [
+      | inl bad ↦ absurd (let h : Some (number word) ≡ None = sym (bad_word command before word words bad) ∙ good in cc)
+      | inr fine ↦
+          let later : first_bad command (before ++ word ∷ []) words ≡ None = sym (good_word command before word words fine) ∙ good in
+          let whole : length (plain_words ((before ++ word ∷ []) ++ words)) ≤ plain_count command = plain_within command (before ++ word ∷ []) words (one_more command before word within fine) later in
+          rw (append_assoc before (word ∷ []) words) at whole
+    ]
+
+-- where no word is bad, there are no plain words too many
+pub plain_few : (command : CommandName) (words : List Role) → first_bad command [] words ≡ None → length (plain_words words) ≤ plain_count command
+plain_few command words good = plain_within command [] words (omega arith) good

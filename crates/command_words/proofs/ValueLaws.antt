@@ -1,14 +1,14 @@
 -- How the values of options are read, a part at a time.
-use Rattle.std.proofs.Common.{◌≡◌, ◌⊎◌, ◌↔◌, ℕ, ◌+◌, ◌<◌, ◌≤◌, nat_le, ◌==◌, Bool, true, false, IsTrue, not, ◌&&◌, ◌||◌, cond, if◌then◌else◌, option_map, List, [], ◌∷◌, ◌++◌, length, take, drop, Option, Some, None, refl, sym, ◌∙◌, ap, inl, inr, arith, append_assoc, append-nil}
+use Rattle.std.proofs.Common.{◌≡◌, ℕ, ◌<◌, ◌≤◌, nat_le, ◌==◌, Bool, true, false, if◌then◌else◌, option_map, List, [], ◌∷◌, ◌++◌, length, drop, Option, Some, None, refl, sym, ◌∙◌, ap, append_assoc, append-nil}
 use Rattle.std.specs.List.{Contains}
 use Rattle.std.proofs.lemmas.List.{drop_all}
 use Rattle.std.proofs.lemmas.Bool.{false_from_ne_true, lt-leb, le-leb, and_right}
 use Rattle.format_model.specs.ScriptReading.{cut}
 use Rattle.run_events.specs.declared.finding.Kind.{Kind}
 use Rattle.run_settings.specs.Kinds.{EachOnce, are_once}
-use Rattle.run_settings.proofs.KindLaws.{tells_once, twice, once_more}
+use Rattle.run_settings.proofs.KindLaws.{tells_once, twice}
 use Rattle.run_settings.specs.declared.letter.Letter.{Letter}
-use Rattle.command_words.specs.Values.{◌>>=◌, kind_named, kinds_in, all_named, onto_first, parts_of, parts_after, letters_in, letter_in, turns_in}
+use Rattle.command_words.specs.Values.{◌>>=◌, kind_named, kinds_in, all_named, onto_first, parts_of, letters_in, letter_in, turns_in}
 
 -- what is read of the rest, behind what was read before it
 abbrev pub behind : {X : Type 0} → List X → Option (List X) → Option (List X)

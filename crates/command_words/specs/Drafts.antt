@@ -1,5 +1,5 @@
 -- What is kept of the words that were read.
-use Rattle.std.specs.Prelude.{◌≡◌, ℕ, ◌+◌, ◌*◌, ◌<◌, ◌≤◌, Bool, true, false, List, [], ◌∷◌, ◌++◌, length, map, take, drop, slice_index_or, count_by, Option, Some, None, is_some, option_map, string_bytes}
+use Rattle.std.specs.Prelude.{◌≡◌, ℕ, ◌+◌, ◌*◌, ◌<◌, ◌≤◌, true, false, List, [], ◌++◌, length, map, take, drop, slice_index_or, count_by, Option, Some, None, is_some, option_map}
 use Rattle.command_words.specs.declared.draft.Draft.{Draft}
 use Rattle.command_words.specs.declared.draft.Given.{Given}
 use Rattle.command_words.specs.declared.fault.WordsFault.{WordsFault}

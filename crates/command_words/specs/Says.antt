@@ -1,5 +1,5 @@
 -- What a command says.
-use Rattle.std.specs.Prelude.{◌≡◌, ℕ, List, option_copied, Result, Ok, Err}
+use Rattle.std.specs.Prelude.{◌≡◌, option_copied, Result, Ok, Err}
 use Rattle.command_words.specs.declared.command.Command.{Command}
 use Rattle.command_words.specs.declared.command.Command.TheVariants as command
 use Rattle.command_words.specs.declared.command.RunWords.{RunWords}

@@ -1,5 +1,5 @@
 //! What is kept of the words that were read.
-ghost use Rattle.std.specs.Prelude.{◌≡◌, ◌+◌, ◌-◌, ◌<◌, ◌≤◌, ◌==◌, if◌then◌else◌, [], ◌∷◌, ◌++◌, length, count_by, Some, None, is_some, option_map, slice_get, option_copied};
+ghost use Rattle.std.specs.Prelude.{◌≡◌, ◌+◌, ◌-◌, ◌<◌, ◌≤◌, ◌==◌, if◌then◌else◌, [], ◌∷◌, ◌++◌, length, count_by, Some, None, is_some, option_map, slice_index_or, option_copied};
 ghost use Rattle.command_words.specs.declared.table.Setting.{Setting};
 ghost use Rattle.command_words.specs.Table.{place};
 
@@ -64,7 +64,7 @@ impl<'a> Draft<'a> {
     // A plain word.
     pub(crate) fn plain_word(&self, index: usize) -> &'a str
         requires { index < length (plain_held self.now) }
-        ensures { slice_get (plain_held self.now) index ≡ Some result.now }
+        ensures { slice_index_or (plain_held self.now) index [] ≡ result.now }
     {
         self.plain[index]
     }

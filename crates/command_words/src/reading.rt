@@ -1,8 +1,13 @@
 //! Reading words, one after another.
-ghost use Rattle.std.specs.Prelude.{◌≡◌, ◌+◌, ◌<◌, ◌≤◌, List, [], drop, length, map, slice_index_or, string_bytes, Some, None, is_some, OnOk, IfOk, IfErr};
+ghost use Rattle.std.specs.Prelude.{◌≡◌, ◌+◌, ◌<◌, ◌≤◌, List, [], drop, length, map, slice_index_or, string_bytes, Some, None, is_some, OnOk, Err, IfOk, IfErr};
+ghost use Rattle.command_words.specs.declared.fault.WordsFault.TheVariants.{Missing};
 ghost use Rattle.command_words.specs.Drafts.{Advances, Holds, IsDraft, Refuses, held, spent};
+ghost use Rattle.command_words.specs.Jobs.{first_bad_in, job_in, read_as};
+ghost use Rattle.command_words.specs.Says.{Gives};
 ghost use Rattle.command_words.specs.Roles.{Role, ends_open, may_stand, meets_plain, option_of, roles};
 
+use crate::assembling::command_of;
+use crate::command::Command;
 use crate::draft::{Draft, Given};
 use crate::fault::WordsFault;
 use crate::number::number_in;
@@ -60,6 +65,7 @@ fn take_next<'a>(
     requires there { index < length words.now }
     requires few { index ≤ spent draft.old }
     ensures few { IfOk result (λ next. next ≤ spent draft.new) }
+    ensures short { result ≡ Err Missing → length words.now ≤ index + 1 }
     ensures next { IfOk result (λ next. (before : List Role) → Holds before draft.old → Advances command (map string_bytes words.now) before index next draft.new) }
     ensures refused { IfErr result (λ fault. (before : List Role) → Holds before draft.old → Refuses command before (roles (index + 2) None (drop index (map string_bytes words.now))) fault) }
 {
@@ -91,6 +97,8 @@ fn take_next<'a>(
 fn draft_of(command: CommandName, words: &[String]) -> Result<Draft<'_>, WordsFault>
     ensures ok { IfOk result (IsDraft command (roles 2 None (map string_bytes words.now))) }
     ensures err { IfErr result (Refuses command [] (roles 2 None (map string_bytes words.now))) }
+    ensures few { IfOk result (λ draft. length words.now ≤ 21) }
+    ensures short { result ≡ Err Missing → length words.now ≤ 22 }
 {
     let mut draft = Draft::new();
     let mut index = 0;
@@ -101,4 +109,54 @@ fn draft_of(command: CommandName, words: &[String]) -> Result<Draft<'_>, WordsFa
         };
     }
     Ok(draft)
+}
+
+// The command with this name, of the words behind its own.
+#[tactic(auto, unfolding(crate::specs::Jobs::read_as))]
+fn read_as(command: CommandName, words: &[String]) -> Result<Command<'_>, WordsFault>
+    ensures { Gives result (read_as command (roles 2 None (map string_bytes words.now))) }
+{
+    let draft = match draft_of(command, words) {
+        Ok(draft) => draft,
+        Err(fault) => return Err(fault),
+    };
+    if draft.plain_count() < command.plain_count() {
+        return Err(WordsFault::Missing);
+    }
+    command_of(command, &draft)
+}
+
+/// The command that words are, with all that they say, or what is wrong with them: the first bad word, or that something
+/// is missing, or the first word that does not go with the others. It takes no memory.
+#[tactic(auto, unfolding(crate::specs::Jobs::job_in))]
+pub fn read_words(words: &[String]) -> Result<Command<'_>, WordsFault>
+    ensures { Gives result (job_in (map string_bytes words.now)) }
+{
+    let [first, later @ ..] = words else {
+        return Err(WordsFault::Missing);
+    };
+    match CommandName::named(first.as_str()) {
+        Some(command) => read_as(command, later),
+        None => Err(WordsFault::Word { number: 1 }),
+    }
+}
+
+/// The number of the first bad word among these, whatever stands behind them. Values that do not go together, and what is
+/// missing, are no bad words here. It takes no memory.
+#[tactic(auto, unfolding(crate::specs::Jobs::first_bad_in))]
+pub fn first_bad_before(words: &[String]) -> Option<u32>
+    ensures first { result ≡ first_bad_in (map string_bytes words.now) }
+    ensures few { result ≡ None → length words.now ≤ 23 }
+{
+    let [first, later @ ..] = words else {
+        return None;
+    };
+    let command = match CommandName::named(first.as_str()) {
+        Some(command) => command,
+        None => return Some(1),
+    };
+    match draft_of(command, later) {
+        Err(WordsFault::Word { number }) => Some(number),
+        Ok(_) | Err(WordsFault::Missing) => None,
+    }
 }

@@ -1,6 +1,6 @@
-use Rattle.std.proofs.Common.{◌≡◌, ℕ, List, [], ◌∷◌, None, Some, option_copied, sym, ◌∙◌, ap, length, refl, arith}
+use Rattle.std.proofs.Common.{◌≡◌, ℕ, List, [], ◌∷◌, None, Some, option_copied, sym, ◌∙◌, ap, refl}
 use Rattle.run_settings.proofs.KindLaws.{once_more}
-use Rattle.command_words.specs.Values.{kind_named, kinds_in, all_named, parts_of, parts_after}
+use Rattle.command_words.specs.Values.{kind_named, all_named, parts_after}
 use Rattle.command_words.proofs.ValueLaws.{behind, named_more, named_none, kinds_unknown, kinds_twice, kinds_all}
 use Rattle.command_words.proofs.value.kinds_of.Goals as goal
 

@@ -1,7 +1,7 @@
-use Rattle.std.proofs.Common.{◌≡◌, ℕ, ◌+◌, ◌<◌, ◌==◌, false, List, [], ◌∷◌, None, Some, get_or, drop, sym, ◌∙◌, ap, length, length-append, refl, arith}
+use Rattle.std.proofs.Common.{◌≡◌, ℕ, ◌+◌, ◌<◌, ◌==◌, false, List, [], ◌∷◌, None, Some, get_or, drop, sym, ◌∙◌, length, length-append, arith}
 use Rattle.std.proofs.lemmas.Bool.{eqb-true, eqb-false}
 use Rattle.std.proofs.lemmas.List.{at_drop_more}
-use Rattle.command_words.specs.Values.{letters_in, letter_in, turns_in}
+use Rattle.command_words.specs.Values.{letters_in, letter_in}
 use Rattle.command_words.proofs.ValueLaws.{behind, letters_more, letters_none, turns_short, turns_long, turns_within, letters_all}
 use Rattle.command_words.proofs.value.turns_of.Goals as goal
 use Rattle.command_words.proofs.value.turns_of.Goals.{then-is_empty-via-then-is_empty, then-is_empty-via-else-is_empty+then-text-gt64}

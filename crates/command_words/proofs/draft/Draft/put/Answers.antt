@@ -1,4 +1,4 @@
-use Rattle.std.proofs.Common.{arith, ◌∙◌, sym}
+use Rattle.std.proofs.Common.{arith}
 use Rattle.command_words.proofs.DraftLaws.{put_values, put_count}
 use Rattle.command_words.proofs.draft.Draft.put.Goals as goal
 
