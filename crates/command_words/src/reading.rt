@@ -3,7 +3,8 @@ ghost use Rattle.std.specs.Prelude.{◌≡◌, ◌+◌, ◌<◌, ◌≤◌, List
 ghost use Rattle.command_words.specs.declared.fault.WordsFault.TheVariants.{Missing};
 ghost use Rattle.command_words.specs.Drafts.{Advances, Holds, IsDraft, Refuses, held, spent};
 ghost use Rattle.command_words.specs.Jobs.{first_bad_in, job_in, read_as};
-ghost use Rattle.command_words.specs.Says.{Gives};
+ghost use Rattle.command_words.specs.Sound.{IsSound};
+ghost use Rattle.command_words.specs.Says.{Gives, says};
 ghost use Rattle.command_words.specs.Roles.{Role, ends_open, may_stand, meets_plain, option_of, roles};
 
 use crate::assembling::command_of;
@@ -126,10 +127,8 @@ fn read_as(command: CommandName, words: &[String]) -> Result<Command<'_>, WordsF
     command_of(command, &draft)
 }
 
-/// The command that words are, with all that they say, or what is wrong with them: the first bad word, or that something
-/// is missing, or the first word that does not go with the others. It takes no memory.
 #[tactic(auto, unfolding(crate::specs::Jobs::job_in))]
-pub fn read_words(words: &[String]) -> Result<Command<'_>, WordsFault>
+fn command_in(words: &[String]) -> Result<Command<'_>, WordsFault>
     ensures { Gives result (job_in (map string_bytes words.now)) }
 {
     let [first, later @ ..] = words else {
@@ -139,6 +138,16 @@ pub fn read_words(words: &[String]) -> Result<Command<'_>, WordsFault>
         Some(command) => read_as(command, later),
         None => Err(WordsFault::Word { number: 1 }),
     }
+}
+
+/// The command that words are, with all that they say, or what is wrong with them: the first bad word, or that something
+/// is missing, or the first word that does not go with the others. It takes no memory.
+#[tactic(auto, using(crate::proofs::SoundLaws::sound_of))]
+pub fn read_words(words: &[String]) -> Result<Command<'_>, WordsFault>
+    ensures exact { Gives result (job_in (map string_bytes words.now)) }
+    ensures sound { IfOk result (λ command. IsSound (says command)) }
+{
+    command_in(words)
 }
 
 /// The number of the first bad word among these, whatever stands behind them. Values that do not go together, and what is
