@@ -1,7 +1,7 @@
 /* Many bytes out, and the clock asked for each line: what the log and the gate have to bear. */
 #include "aftersight.h"
 
-enum { LINES = 8000 };
+enum { LINES = 30000 };
 
 int main(void) {
     for (uint32_t line = 0; line < LINES; line++) {
