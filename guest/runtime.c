@@ -1,6 +1,9 @@
 /* What start.S calls, and what the compiler calls by itself. */
 #include "aftersight.h"
 
+/* so that the loop in memset does not become a call of memset */
+#pragma GCC optimize("no-tree-loop-distribute-patterns")
+
 enum { INTERRUPT = 0x80000000u };
 
 /* Called by start.S with all registers saved; answers the frame to go on with. */
