@@ -4,6 +4,8 @@ ghost use Rattle.rv_decode.specs.Valid.{IsRegister, IsValid};
 ghost use Rattle.hart_model.specs.Effect as model;
 ghost use Rattle.hart_model.specs.Effect.{Does};
 ghost use Rattle.hart_model.specs.Fetch.{fetched};
+ghost use Rattle.hart_model.specs.Operations.{immediate_result, is_taken, sum};
+ghost use Rattle.hart_model.specs.State.{register};
 ghost use Rattle.rv_cpu.specs.Batch.{caught_up, counted_times, from, goes, goes_by, goes_fetched, goes_plainly, going};
 ghost use Rattle.rv_cpu.specs.Plain.{is_plain};
 ghost use Rattle.rv_cpu.specs.PlainRun.{are_plain, plain_after};
@@ -14,7 +16,7 @@ use crate::engine::Engine;
 use crate::step::SIZE;
 use memory_map::GRAIN;
 use rv_csr::Csrs;
-use rv_decode::{Instr, LoadOp, StoreOp, decode};
+use rv_decode::{BranchOp, ImmOp, Instr, LoadOp, StoreOp, decode};
 
 // The counters after so many steps that retired an instruction.
 
@@ -72,14 +74,84 @@ impl Engine {
         }
     }
 
+    // What a branch decides, with the registers read in each case: so no case waits for another one's choice.
+    #[inline(always)]
+    fn takes_branch(&self, op: BranchOp, rs1: u32, rs2: u32) -> bool
+        requires rs1 { IsRegister rs1 }
+        requires rs2 { IsRegister rs2 }
+        ensures { result ≡ is_taken op (register self.now rs1) (register self.now rs2) }
+    {
+        match op {
+            BranchOp::Beq => alu::takes_branch(
+                BranchOp::Beq,
+                self.register(rs1),
+                self.register(rs2),
+            ),
+            BranchOp::Bne => alu::takes_branch(
+                BranchOp::Bne,
+                self.register(rs1),
+                self.register(rs2),
+            ),
+            BranchOp::Blt => alu::takes_branch(
+                BranchOp::Blt,
+                self.register(rs1),
+                self.register(rs2),
+            ),
+            BranchOp::Bge => alu::takes_branch(
+                BranchOp::Bge,
+                self.register(rs1),
+                self.register(rs2),
+            ),
+            BranchOp::Bltu => alu::takes_branch(
+                BranchOp::Bltu,
+                self.register(rs1),
+                self.register(rs2),
+            ),
+            BranchOp::Bgeu => alu::takes_branch(
+                BranchOp::Bgeu,
+                self.register(rs1),
+                self.register(rs2),
+            ),
+        }
+    }
+
+    // What an operation makes of a register and an immediate.
+    #[inline(always)]
+    fn immediate(&self, op: ImmOp, rs1: u32, b: u32) -> u32
+        requires { IsRegister rs1 }
+        ensures { result ≡ immediate_result op (register self.now rs1) b }
+    {
+        match op {
+            ImmOp::Addi => alu::immediate(ImmOp::Addi, self.register(rs1), b),
+            ImmOp::Slti => alu::immediate(ImmOp::Slti, self.register(rs1), b),
+            ImmOp::Sltiu => alu::immediate(ImmOp::Sltiu, self.register(rs1), b),
+            ImmOp::Xori => alu::immediate(ImmOp::Xori, self.register(rs1), b),
+            ImmOp::Ori => alu::immediate(ImmOp::Ori, self.register(rs1), b),
+            ImmOp::Andi => alu::immediate(ImmOp::Andi, self.register(rs1), b),
+            ImmOp::Slli => alu::immediate(ImmOp::Slli, self.register(rs1), b),
+            ImmOp::Srli => alu::immediate(ImmOp::Srli, self.register(rs1), b),
+            ImmOp::Srai => alu::immediate(ImmOp::Srai, self.register(rs1), b),
+        }
+    }
+
     // Loads from RAM.
     #[inline(always)]
-    fn fetch(&mut self, size: u32, pc: u32, op: LoadOp, rd: u32, address: u32) -> Option<u32>
-        requires { IsRegister rd }
+    fn fetch_as(
+        &mut self,
+        size: u32,
+        pc: u32,
+        op: LoadOp,
+        rd: u32,
+        rs1: u32,
+        offset: u32,
+    ) -> Option<u32>
+        requires rd { IsRegister rd }
+        requires rs1 { IsRegister rs1 }
         ensures { going result (from self.new pc)
             ≡ goes_plainly (from self.old pc)
-            (model.loading (from self.old pc) None size op rd address) }
+            (model.loading (from self.old pc) None size op rd (sum (register self.old rs1) offset)) }
     {
+        let address = self.register(rs1).wrapping_add(offset);
         let width = alu::load_width(op);
         if !self.has_aligned(address, width) {
             return None;
@@ -88,19 +160,79 @@ impl Engine {
         self.give(size, pc, rd, alu::loaded(op, value))
     }
 
-    // Stores to RAM.
     #[inline(always)]
-    fn keep(&mut self, size: u32, pc: u32, op: StoreOp, value: u32, address: u32) -> Option<u32>
+    fn fetch(
+        &mut self,
+        size: u32,
+        pc: u32,
+        op: LoadOp,
+        rd: u32,
+        rs1: u32,
+        offset: u32,
+    ) -> Option<u32>
+        requires rd { IsRegister rd }
+        requires rs1 { IsRegister rs1 }
         ensures { going result (from self.new pc)
             ≡ goes_plainly (from self.old pc)
-            (model.storing (from self.old pc) size op value address) }
+            (model.loading (from self.old pc) None size op rd (sum (register self.old rs1) offset)) }
     {
+        match op {
+            LoadOp::Lb => self.fetch_as(size, pc, LoadOp::Lb, rd, rs1, offset),
+            LoadOp::Lh => self.fetch_as(size, pc, LoadOp::Lh, rd, rs1, offset),
+            LoadOp::Lw => self.fetch_as(size, pc, LoadOp::Lw, rd, rs1, offset),
+            LoadOp::Lbu => self.fetch_as(size, pc, LoadOp::Lbu, rd, rs1, offset),
+            LoadOp::Lhu => self.fetch_as(size, pc, LoadOp::Lhu, rd, rs1, offset),
+        }
+    }
+
+    // Stores to RAM.
+    #[inline(always)]
+    fn keep_as(
+        &mut self,
+        size: u32,
+        pc: u32,
+        op: StoreOp,
+        rs2: u32,
+        rs1: u32,
+        offset: u32,
+    ) -> Option<u32>
+        requires rs2 { IsRegister rs2 }
+        requires rs1 { IsRegister rs1 }
+        ensures { going result (from self.new pc)
+            ≡ goes_plainly (from self.old pc)
+            (model.storing (from self.old pc) size op (register self.old rs2) (sum (register self.old rs1) offset)) }
+    {
+        let address = self.register(rs1).wrapping_add(offset);
         let width = alu::store_width(op);
         if !self.has_aligned(address, width) {
             return None;
         }
-        self.ram.store(address, width, low_bytes(width, value));
+        let value = low_bytes(width, self.register(rs2));
+        self.ram.store(address, width, value);
         self.give(size, pc, 0, 0)
+    }
+
+    #[inline(always)]
+    fn keep(
+        &mut self,
+        size: u32,
+        pc: u32,
+        op: StoreOp,
+        rs2: u32,
+        rs1: u32,
+        offset: u32,
+    ) -> Option<u32>
+        requires rs2 { IsRegister rs2 }
+        requires rs1 { IsRegister rs1 }
+        ensures { going result (from self.new pc)
+            ≡ goes_plainly (from self.old pc)
+            (model.storing (from self.old pc) size op (register self.old rs2) (sum (register self.old rs1) offset)) }
+    {
+        match op {
+            StoreOp::Sb => self.keep_as(size, pc, StoreOp::Sb, rs2, rs1, offset),
+            StoreOp::Sh => self.keep_as(size, pc, StoreOp::Sh, rs2, rs1, offset),
+            StoreOp::Sw => self.keep_as(size, pc, StoreOp::Sw, rs2, rs1, offset),
+        }
     }
 
     // Does a plain instruction at a pc, and answers where it goes on; of another one, nothing. (Unprivileged manual,
@@ -122,19 +254,17 @@ impl Engine {
                 self.leap(size, pc, rd, sum - sum % 2)
             }
             Instr::Branch { op, rs1, rs2, imm } => {
-                let taken = alu::takes_branch(op, self.register(rs1), self.register(rs2));
+                let taken = self.takes_branch(op, rs1, rs2);
                 self.fork(size, pc, taken, pc.wrapping_add(imm.cast_unsigned()))
             }
             Instr::Load { op, rd, rs1, imm } => {
-                let address = self.register(rs1).wrapping_add(imm.cast_unsigned());
-                self.fetch(size, pc, op, rd, address)
+                self.fetch(size, pc, op, rd, rs1, imm.cast_unsigned())
             }
             Instr::Store { op, rs1, rs2, imm } => {
-                let address = self.register(rs1).wrapping_add(imm.cast_unsigned());
-                self.keep(size, pc, op, self.register(rs2), address)
+                self.keep(size, pc, op, rs2, rs1, imm.cast_unsigned())
             }
             Instr::OpImm { op, rd, rs1, imm } => {
-                let value = alu::immediate(op, self.register(rs1), imm.cast_unsigned());
+                let value = self.immediate(op, rs1, imm.cast_unsigned());
                 self.give(size, pc, rd, value)
             }
             Instr::Op { op, rd, rs1, rs2 } => {
