@@ -4,7 +4,7 @@ ghost use Rattle.rv_decode.specs.Valid.{IsRegister, IsValid};
 ghost use Rattle.hart_model.specs.Effect as model;
 ghost use Rattle.hart_model.specs.Effect.{Does};
 ghost use Rattle.hart_model.specs.Fetch.{fetched};
-ghost use Rattle.hart_model.specs.Operations.{immediate_result, is_taken, sum};
+ghost use Rattle.hart_model.specs.Operations.{sum};
 ghost use Rattle.hart_model.specs.State.{register};
 ghost use Rattle.rv_cpu.specs.Batch.{caught_up, counted_times, from, goes, goes_by, goes_fetched, goes_plainly, going};
 ghost use Rattle.rv_cpu.specs.Plain.{is_plain};
@@ -16,7 +16,7 @@ use crate::engine::Engine;
 use crate::step::SIZE;
 use memory_map::GRAIN;
 use rv_csr::Csrs;
-use rv_decode::{BranchOp, ImmOp, Instr, LoadOp, StoreOp, decode};
+use rv_decode::{Instr, LoadOp, StoreOp, decode};
 
 // The counters after so many steps that retired an instruction.
 
@@ -71,66 +71,6 @@ impl Engine {
             self.leap(size, pc, 0, target)
         } else {
             self.give(size, pc, 0, 0)
-        }
-    }
-
-    // What a branch decides, with the registers read in each case: so no case waits for another one's choice.
-    #[inline(always)]
-    fn takes_branch(&self, op: BranchOp, rs1: u32, rs2: u32) -> bool
-        requires rs1 { IsRegister rs1 }
-        requires rs2 { IsRegister rs2 }
-        ensures { result ≡ is_taken op (register self.now rs1) (register self.now rs2) }
-    {
-        match op {
-            BranchOp::Beq => alu::takes_branch(
-                BranchOp::Beq,
-                self.register(rs1),
-                self.register(rs2),
-            ),
-            BranchOp::Bne => alu::takes_branch(
-                BranchOp::Bne,
-                self.register(rs1),
-                self.register(rs2),
-            ),
-            BranchOp::Blt => alu::takes_branch(
-                BranchOp::Blt,
-                self.register(rs1),
-                self.register(rs2),
-            ),
-            BranchOp::Bge => alu::takes_branch(
-                BranchOp::Bge,
-                self.register(rs1),
-                self.register(rs2),
-            ),
-            BranchOp::Bltu => alu::takes_branch(
-                BranchOp::Bltu,
-                self.register(rs1),
-                self.register(rs2),
-            ),
-            BranchOp::Bgeu => alu::takes_branch(
-                BranchOp::Bgeu,
-                self.register(rs1),
-                self.register(rs2),
-            ),
-        }
-    }
-
-    // What an operation makes of a register and an immediate.
-    #[inline(always)]
-    fn immediate(&self, op: ImmOp, rs1: u32, b: u32) -> u32
-        requires { IsRegister rs1 }
-        ensures { result ≡ immediate_result op (register self.now rs1) b }
-    {
-        match op {
-            ImmOp::Addi => alu::immediate(ImmOp::Addi, self.register(rs1), b),
-            ImmOp::Slti => alu::immediate(ImmOp::Slti, self.register(rs1), b),
-            ImmOp::Sltiu => alu::immediate(ImmOp::Sltiu, self.register(rs1), b),
-            ImmOp::Xori => alu::immediate(ImmOp::Xori, self.register(rs1), b),
-            ImmOp::Ori => alu::immediate(ImmOp::Ori, self.register(rs1), b),
-            ImmOp::Andi => alu::immediate(ImmOp::Andi, self.register(rs1), b),
-            ImmOp::Slli => alu::immediate(ImmOp::Slli, self.register(rs1), b),
-            ImmOp::Srli => alu::immediate(ImmOp::Srli, self.register(rs1), b),
-            ImmOp::Srai => alu::immediate(ImmOp::Srai, self.register(rs1), b),
         }
     }
 
