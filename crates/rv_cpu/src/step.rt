@@ -1,5 +1,6 @@
 //! One step.
 ghost use Rattle.std.specs.Prelude.{◌≡◌, ℕ, ◌+◌, ◌<◌, true, false, None, Some, IsTrue};
+ghost use Rattle.rv_csr.proofs.CounterLaws.{IsSettled};
 ghost use Rattle.rv_decode.specs.Valid.{IsValid};
 ghost use Rattle.hart_model.specs.Machine.{holds_word};
 ghost use Rattle.hart_model.specs.Step.{cpu, outcome, step_by, trapped, interrupted, touch};
@@ -37,6 +38,29 @@ impl Engine {
         event
     }
 
+    // The same where no counter was written since the last step ended.
+    #[inline(always)]
+    fn end_plainly(&mut self, word: u32, told: Told, value: u32, next: u32, access: Access) -> Event
+        requires room { self.old.step < 1000000000 }
+        requires settled { IsSettled self.old.csrs }
+        ensures { ended told word (Goes value next access) self.old ≡ Some (result, self.new) }
+    {
+        let event = Event::Exec {
+            step: self.steps,
+            pc: self.pc,
+            word,
+            next,
+            result: value,
+            access,
+            told,
+        };
+        self.pc = next;
+        self.csrs.mcycle = self.csrs.mcycle.wrapping_add(1);
+        self.csrs.minstret = self.csrs.minstret.wrapping_add(1);
+        self.steps += 1;
+        event
+    }
+
     // Does the step of a plain instruction; of another one, nothing.
     #[inline(always)]
     fn run_plainly(
@@ -49,6 +73,7 @@ impl Engine {
     ) -> bool
         requires valid { IsValid instr }
         requires room { self.old.step < 1000000000 }
+        requires settled { IsSettled self.old.csrs }
         ensures plain { result ≡ is_plain_decoded self.old lines word size (Some instr) }
         ensures step { IsTrue result →
             step_by self.old word (outcome self.old lines None word size instr)
@@ -58,12 +83,12 @@ impl Engine {
         let told = self.told();
         match self.execute_plainly(lines, word, size, instr) {
             Done::Quiet { result, next } => {
-                *event = self.end(word, told, result, next, Access::Quiet);
+                *event = self.end_plainly(word, told, result, next, Access::Quiet);
                 true
             }
             Done::Accessed { result, access } => {
                 let next = self.next(size);
-                *event = self.end(word, told, result, next, access);
+                *event = self.end_plainly(word, told, result, next, access);
                 true
             }
             _ => false,
@@ -74,7 +99,8 @@ impl Engine {
     #[tactic(auto, unfolding(hart_model::specs::Step::cpu, crate::specs::Plain::is_plain))]
     #[inline(always)]
     pub fn try_step(&mut self, lines: u8, event: &mut Event) -> bool
-        requires { self.old.step < 1000000000 }
+        requires room { self.old.step < 1000000000 }
+        requires settled { IsSettled self.old.csrs }
         ensures plain { result ≡ is_plain self.old lines }
         ensures step { IsTrue result → cpu self.old lines None ≡ (event.new, self.new) }
         ensures same { result ≡ false → self.new ≡ self.old }
