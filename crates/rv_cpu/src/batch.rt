@@ -5,6 +5,8 @@ ghost use Rattle.rv_decode.specs.Valid.{IsRegister, IsValid};
 ghost use Rattle.hart_model.specs.Effect as model;
 ghost use Rattle.hart_model.specs.Effect.{Does};
 ghost use Rattle.hart_model.specs.Fetch.{fetched};
+ghost use Rattle.hart_model.specs.Operations.{sum};
+ghost use Rattle.hart_model.specs.State.{register};
 ghost use Rattle.rv_cpu.specs.Batch.{caught_up, counted_times, from, goes, goes_by, goes_fetched, goes_plainly, going};
 ghost use Rattle.rv_cpu.specs.Plain.{is_plain};
 ghost use Rattle.rv_cpu.specs.PlainRun.{are_plain, plain_after};
@@ -75,12 +77,22 @@ impl Engine {
 
     // Loads from RAM.
     #[inline(always)]
-    fn fetch(&mut self, size: u32, pc: u32, op: LoadOp, rd: u32, address: u32) -> Option<u32>
-        requires { IsRegister rd }
+    fn fetch_as(
+        &mut self,
+        size: u32,
+        pc: u32,
+        op: LoadOp,
+        rd: u32,
+        rs1: u32,
+        offset: u32,
+    ) -> Option<u32>
+        requires rd { IsRegister rd }
+        requires rs1 { IsRegister rs1 }
         ensures { going result (from self.new pc)
             ≡ goes_plainly (from self.old pc)
-            (model.loading (from self.old pc) None size op rd address) }
+            (model.loading (from self.old pc) None size op rd (sum (register self.old rs1) offset)) }
     {
+        let address = self.register(rs1).wrapping_add(offset);
         let width = alu::load_width(op);
         if !self.has_aligned(address, width) {
             return None;
@@ -89,19 +101,79 @@ impl Engine {
         self.give(size, pc, rd, alu::loaded(op, value))
     }
 
-    // Stores to RAM.
     #[inline(always)]
-    fn keep(&mut self, size: u32, pc: u32, op: StoreOp, value: u32, address: u32) -> Option<u32>
+    fn fetch(
+        &mut self,
+        size: u32,
+        pc: u32,
+        op: LoadOp,
+        rd: u32,
+        rs1: u32,
+        offset: u32,
+    ) -> Option<u32>
+        requires rd { IsRegister rd }
+        requires rs1 { IsRegister rs1 }
         ensures { going result (from self.new pc)
             ≡ goes_plainly (from self.old pc)
-            (model.storing (from self.old pc) size op value address) }
+            (model.loading (from self.old pc) None size op rd (sum (register self.old rs1) offset)) }
     {
+        match op {
+            LoadOp::Lb => self.fetch_as(size, pc, LoadOp::Lb, rd, rs1, offset),
+            LoadOp::Lh => self.fetch_as(size, pc, LoadOp::Lh, rd, rs1, offset),
+            LoadOp::Lw => self.fetch_as(size, pc, LoadOp::Lw, rd, rs1, offset),
+            LoadOp::Lbu => self.fetch_as(size, pc, LoadOp::Lbu, rd, rs1, offset),
+            LoadOp::Lhu => self.fetch_as(size, pc, LoadOp::Lhu, rd, rs1, offset),
+        }
+    }
+
+    // Stores to RAM.
+    #[inline(always)]
+    fn keep_as(
+        &mut self,
+        size: u32,
+        pc: u32,
+        op: StoreOp,
+        rs2: u32,
+        rs1: u32,
+        offset: u32,
+    ) -> Option<u32>
+        requires rs2 { IsRegister rs2 }
+        requires rs1 { IsRegister rs1 }
+        ensures { going result (from self.new pc)
+            ≡ goes_plainly (from self.old pc)
+            (model.storing (from self.old pc) size op (register self.old rs2) (sum (register self.old rs1) offset)) }
+    {
+        let address = self.register(rs1).wrapping_add(offset);
         let width = alu::store_width(op);
         if !self.has_aligned(address, width) {
             return None;
         }
-        self.ram.store(address, width, low_bytes(width, value));
+        let value = low_bytes(width, self.register(rs2));
+        self.ram.store(address, width, value);
         self.give(size, pc, 0, 0)
+    }
+
+    #[inline(always)]
+    fn keep(
+        &mut self,
+        size: u32,
+        pc: u32,
+        op: StoreOp,
+        rs2: u32,
+        rs1: u32,
+        offset: u32,
+    ) -> Option<u32>
+        requires rs2 { IsRegister rs2 }
+        requires rs1 { IsRegister rs1 }
+        ensures { going result (from self.new pc)
+            ≡ goes_plainly (from self.old pc)
+            (model.storing (from self.old pc) size op (register self.old rs2) (sum (register self.old rs1) offset)) }
+    {
+        match op {
+            StoreOp::Sb => self.keep_as(size, pc, StoreOp::Sb, rs2, rs1, offset),
+            StoreOp::Sh => self.keep_as(size, pc, StoreOp::Sh, rs2, rs1, offset),
+            StoreOp::Sw => self.keep_as(size, pc, StoreOp::Sw, rs2, rs1, offset),
+        }
     }
 
     // Does a plain instruction at a pc, and answers where it goes on; of another one, nothing. (Unprivileged manual,
@@ -123,19 +195,17 @@ impl Engine {
                 self.leap(size, pc, rd, sum - sum % 2)
             }
             Instr::Branch { op, rs1, rs2, imm } => {
-                let taken = alu::takes_branch(op, self.register(rs1), self.register(rs2));
+                let taken = self.takes_branch(op, rs1, rs2);
                 self.fork(size, pc, taken, pc.wrapping_add(imm.cast_unsigned()))
             }
             Instr::Load { op, rd, rs1, imm } => {
-                let address = self.register(rs1).wrapping_add(imm.cast_unsigned());
-                self.fetch(size, pc, op, rd, address)
+                self.fetch(size, pc, op, rd, rs1, imm.cast_unsigned())
             }
             Instr::Store { op, rs1, rs2, imm } => {
-                let address = self.register(rs1).wrapping_add(imm.cast_unsigned());
-                self.keep(size, pc, op, self.register(rs2), address)
+                self.keep(size, pc, op, rs2, rs1, imm.cast_unsigned())
             }
             Instr::OpImm { op, rd, rs1, imm } => {
-                let value = alu::immediate(op, self.register(rs1), imm.cast_unsigned());
+                let value = self.immediate(op, rs1, imm.cast_unsigned());
                 self.give(size, pc, rd, value)
             }
             Instr::Op { op, rd, rs1, rs2 } => {

@@ -16,14 +16,14 @@ pub struct Cpu {
 }
 
 impl Model for Cpu {
-    ghost use Rattle.hart_model.specs.Aligned.{IsAligned};
     ghost use Rattle.hart_model.specs.State.{State};
+    ghost use Rattle.rv_cpu.specs.Sound.{IsSound};
 
     ghost Value = { State };
 
     ghost view = { λ c. c.engine };
 
-    ghost invariant = { λ c. IsAligned c.engine };
+    ghost invariant = { λ c. IsSound c.engine };
 }
 
 impl Cpu {
