@@ -21,7 +21,7 @@ use std::alloc::Global;
 pub struct Board {
     // how many steps have begun
     begun: u64,
-    // nothing falls due by itself before this step
+    // neither the script nor the disk brings anything before this step
     quiet: u64,
     schedule: Schedule,
     timer: Timer,
@@ -138,11 +138,7 @@ impl Board {
         let ticks = self.schedule.advance(step);
         self.timer.pulse(ticks);
         self.disk.advance(step);
-        self.quiet = self
-            .timer
-            .rise
-            .min(self.schedule.due())
-            .min(self.disk.due());
+        self.quiet = self.schedule.due().min(self.disk.due());
     }
 
     /// Begins a step: what falls due with it is there. Steps begin in order from 0, and `due` has no word left of the
@@ -155,7 +151,7 @@ impl Board {
             → Stands script step [] state self.old
             → Stands script (step + 1) (model.words_before step state) (model.at_step step state) self.new }
     {
-        if u64::from(step) < self.quiet {
+        if u64::from(step) < self.quiet.min(self.timer.rise) {
             self.begun = u64::from(step) + 1;
         } else {
             self.advance(step);
@@ -172,7 +168,7 @@ impl Board {
             → AreStill script (model.board_lines script step state) (step + 1) result state }
         ensures ahead { result ≤ quiet_ahead self.now }
     {
-        let until = self.quiet.min(0x1_0000_0000);
+        let until = self.quiet.min(self.timer.steady()).min(0x1_0000_0000);
         if until <= self.begun {
             return 0;
         }
@@ -190,6 +186,7 @@ impl Board {
             → Stands script (begun + count) words state self.new }
     {
         self.begun += u64::from(count);
+        self.timer.pass(self.begun);
     }
 
     /// Hands out the next word that the disk writes before this step. None is left where it answers None.
