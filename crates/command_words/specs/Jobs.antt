@@ -1,4 +1,5 @@
 -- Which words are which command.
+use Rattle.memory_map.specs.declared.TheConstants.{MOST_STEPS}
 use Rattle.std.specs.Prelude.{ℕ, Bool, false, not, ◌||◌, nat_lt, if◌then◌else◌, List, [], ◌∷◌, length, slice_index_or, Option, Some, None, unwrap_or, option_map, Result, Ok, Err}
 use Rattle.std.specs.List.{list_all}
 use Rattle.std.specs.Option.{option_map_or}
@@ -94,7 +95,7 @@ abbrev pub ram : Values → ℕ
 ram values = number_or 1024 64 16384 (values Ram)
 
 abbrev pub steps : Values → ℕ
-steps values = number_or 10000000 1 1000000000 (values Steps)
+steps values = number_or 10000000 1 MOST_STEPS (values Steps)
 
 abbrev pub log : Values → ℕ
 log values = value_or 1024 size_in (values Log)

@@ -1,4 +1,5 @@
 -- How the values of options are read.
+use Rattle.memory_map.specs.declared.TheConstants.{MOST_STEPS}
 use Rattle.std.specs.Prelude.{ℕ, ◌-◌, ◌==◌, Bool, true, false, not, ◌&&◌, nat_le, if◌then◌else◌, List, [], ◌∷◌, length, codes, Option, Some, None, is_some}
 use Rattle.std.specs.List.{find}
 use Rattle.std.specs.Char.{is_ascii_digit}
@@ -98,7 +99,7 @@ meets Mode value = is_some (best_in value)
 meets With value = is_some (kinds_in value)
 meets Require value = is_some (required_in value)
 meets Ram value = is_some (number_in 64 16384 value)
-meets Steps value = is_some (number_in 1 1000000000 value)
+meets Steps value = is_some (number_in 1 MOST_STEPS value)
 meets Log value = is_some (size_in value)
 meets Threads value = is_some (number_in 0 8 value)
 meets Turns value = is_some (turns_in value)

@@ -14,6 +14,7 @@ use crate::fault::WordsFault;
 use crate::number::number_in;
 use crate::table::{CommandName, Setting};
 use crate::value::{best_in, kinds_in, required_in, size_in, turns_in};
+use memory_map::{LEAST_RAM_KIB, MOST_RAM_KIB, MOST_STEPS};
 use run_events::Kind;
 use run_settings::{Kinds, Turns};
 
@@ -88,13 +89,13 @@ fn threads(draft: &Draft<'_>) -> u32
 fn ram(draft: &Draft<'_>) -> u32
     ensures { result ≡ ram (held draft.now) }
 {
-    number_or(draft.value(Setting::Ram), 64, 16384, 1024)
+    number_or(draft.value(Setting::Ram), LEAST_RAM_KIB, MOST_RAM_KIB, 1024)
 }
 
 fn steps(draft: &Draft<'_>) -> u32
     ensures { result ≡ steps (held draft.now) }
 {
-    number_or(draft.value(Setting::Steps), 1, 1_000_000_000, 10_000_000)
+    number_or(draft.value(Setting::Steps), 1, MOST_STEPS, 10_000_000)
 }
 
 fn log(draft: &Draft<'_>) -> u32

@@ -4,6 +4,7 @@ ghost use Rattle.command_words.specs.Values.{best_in, is_option, is_plain, is_va
 
 use crate::number::number_in;
 use crate::table::Setting;
+use memory_map::{LEAST_RAM_KIB, MOST_RAM_KIB, MOST_STEPS};
 use run_events::Kind;
 use run_settings::{Kinds, Letter, Turns};
 
@@ -175,8 +176,8 @@ fn meets(setting: Setting, value: &str) -> bool
         Setting::Mode => best_in(value).is_some(),
         Setting::With => kinds_in(value).is_some(),
         Setting::Require => required_in(value).is_some(),
-        Setting::Ram => number_in(value, 64, 16384).is_some(),
-        Setting::Steps => number_in(value, 1, 1_000_000_000).is_some(),
+        Setting::Ram => number_in(value, LEAST_RAM_KIB, MOST_RAM_KIB).is_some(),
+        Setting::Steps => number_in(value, 1, MOST_STEPS).is_some(),
         Setting::Log => size_in(value).is_some(),
         Setting::Threads => number_in(value, 0, 8).is_some(),
         Setting::Turns => turns_in(value).is_some(),
