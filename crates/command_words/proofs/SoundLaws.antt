@@ -1,5 +1,5 @@
 -- Every job that words are is sound.
-use Rattle.std.proofs.Common.{◌≡◌, ◌⊎◌, ◌↔◌, ℕ, ◌+◌, ◌<◌, ◌≤◌, ◌==◌, nat_lt, Bool, true, false, IsTrue, not, ◌&&◌, ◌||◌, if◌then◌else◌, cond, List, [], ◌∷◌, ◌++◌, length, codes, get_or, Option, Some, None, unwrap_or, Result, Ok, Err, IfOk, inl, inr, refl, sym, ◌∙◌, ap, subst, arith}
+use Rattle.std.proofs.Common.{◌≡◌, ℕ, ◌<◌, ◌==◌, nat_lt, Bool, true, false, not, ◌||◌, if◌then◌else◌, List, [], ◌∷◌, length, codes, get_or, Option, Some, None, unwrap_or, Result, Ok, Err, IfOk, inl, inr, refl, sym, ◌∙◌, ap, subst, arith}
 use lib.Count.{ones}
 use Rattle.std.specs.Int.{is_power_of_two}
 use Rattle.std.specs.List.{All, Contains, list_all}
@@ -12,18 +12,18 @@ use Rattle.format_model.specs.ScriptReading.{Broken, is_number, leads_with_zero,
 use Rattle.format_model.specs.ScriptReading as script
 use Rattle.run_events.specs.declared.finding.Kind.{Kind}
 use Rattle.run_settings.specs.Kinds.{EachOnce, are_once, has_kind}
-use Rattle.run_settings.specs.Patterns.{IsPattern, is_pattern, plain_turns}
+use Rattle.run_settings.specs.Patterns.{IsPattern, is_pattern}
 use Rattle.run_settings.proofs.KindLaws.{tells_kind, tells_once}
 use Rattle.run_settings.proofs.PatternLaws.{plain_pattern, tells_pattern}
 use Rattle.command_words.specs.declared.fault.WordsFault.{WordsFault}
 use Rattle.command_words.specs.declared.fault.WordsFault.TheVariants.{Word, Missing}
 use Rattle.command_words.specs.declared.table.CommandName.{CommandName}
 use Rattle.command_words.specs.declared.table.CommandName.TheVariants as command
-use Rattle.command_words.specs.declared.table.Setting.TheVariants.{Mode, With, Require, Ram, Steps, Log, Threads, Turns}
+use Rattle.command_words.specs.declared.table.Setting.TheVariants.{With, Require, Ram, Steps, Log, Threads, Turns}
 use Rattle.command_words.specs.Table.{command_named}
-use Rattle.command_words.specs.Values.{◌>>=◌, all_named, kind_named, kinds, kinds_in, number_in, onto_first, parts_of, required_in, size_in, turns_in}
+use Rattle.command_words.specs.Values.{◌>>=◌, all_named, kind_named, kinds, kinds_in, number_in, onto_first, parts_of, required_in, size_in}
 use Rattle.command_words.specs.Roles.{Role, first_bad, found, plain_words, roles}
-use Rattle.command_words.specs.Jobs.{Job, Run, Record, Analyze, Show, Load, Values, value_or, is_best, chosen, named_required, required, threads, turns, ram, steps, log, word_if, crossed_required, crossed_turns, run_job, run_of, job_of, is_short, read_as, job_in, record_job, analyze_job, load_job}
+use Rattle.command_words.specs.Jobs.{Job, Run, Record, Analyze, Show, Load, Values, value_or, is_best, chosen, named_required, threads, turns, ram, steps, log, word_if, crossed_required, crossed_turns, run_job, run_of, job_of, is_short, read_as, job_in, record_job, analyze_job, load_job}
 use Rattle.command_words.specs.declared.command.Command.{Command}
 use Rattle.command_words.specs.Says.{Gives, says}
 use Rattle.command_words.specs.Sound.{IsBetween, IsLogSize, AreChosen, IsSoundRun, IsSound}
