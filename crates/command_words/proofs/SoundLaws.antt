@@ -1,6 +1,5 @@
 -- Every job that words are is sound.
-use Rattle.memory_map.specs.declared.TheConstants.{MOST_STEPS}
-use Rattle.std.proofs.Common.{◌≡◌, ◌⊎◌, ◌↔◌, ℕ, ◌+◌, ◌<◌, ◌≤◌, ◌==◌, nat_lt, Bool, true, false, IsTrue, not, ◌&&◌, ◌||◌, if◌then◌else◌, cond, List, [], ◌∷◌, ◌++◌, length, codes, get_or, Option, Some, None, unwrap_or, Result, Ok, Err, IfOk, inl, inr, refl, sym, ◌∙◌, ap, subst, arith}
+use Rattle.std.proofs.Common.{◌≡◌, ℕ, ◌<◌, ◌==◌, nat_lt, Bool, true, false, not, ◌||◌, if◌then◌else◌, List, [], ◌∷◌, length, codes, get_or, Option, Some, None, unwrap_or, Result, Ok, Err, IfOk, inl, inr, refl, sym, ◌∙◌, ap, subst, arith}
 use lib.Count.{ones}
 use Rattle.std.specs.Int.{is_power_of_two}
 use Rattle.std.specs.List.{All, Contains, list_all}
@@ -13,18 +12,18 @@ use Rattle.format_model.specs.ScriptReading.{Broken, is_number, leads_with_zero,
 use Rattle.format_model.specs.ScriptReading as script
 use Rattle.run_events.specs.declared.finding.Kind.{Kind}
 use Rattle.run_settings.specs.Kinds.{EachOnce, are_once, has_kind}
-use Rattle.run_settings.specs.Patterns.{IsPattern, is_pattern, plain_turns}
+use Rattle.run_settings.specs.Patterns.{IsPattern, is_pattern}
 use Rattle.run_settings.proofs.KindLaws.{tells_kind, tells_once}
 use Rattle.run_settings.proofs.PatternLaws.{plain_pattern, tells_pattern}
 use Rattle.command_words.specs.declared.fault.WordsFault.{WordsFault}
 use Rattle.command_words.specs.declared.fault.WordsFault.TheVariants.{Word, Missing}
 use Rattle.command_words.specs.declared.table.CommandName.{CommandName}
 use Rattle.command_words.specs.declared.table.CommandName.TheVariants as command
-use Rattle.command_words.specs.declared.table.Setting.TheVariants.{Mode, With, Require, Ram, Steps, Log, Threads, Turns}
+use Rattle.command_words.specs.declared.table.Setting.TheVariants.{With, Require, Ram, Steps, Log, Threads, Turns}
 use Rattle.command_words.specs.Table.{command_named}
-use Rattle.command_words.specs.Values.{◌>>=◌, all_named, kind_named, kinds, kinds_in, number_in, onto_first, parts_of, required_in, size_in, turns_in}
+use Rattle.command_words.specs.Values.{◌>>=◌, all_named, kind_named, kinds, kinds_in, number_in, onto_first, parts_of, required_in, log_in, ram_in, steps_in, threads_in}
 use Rattle.command_words.specs.Roles.{Role, first_bad, found, plain_words, roles}
-use Rattle.command_words.specs.Jobs.{Job, Run, Record, Analyze, Show, Load, Values, value_or, is_best, chosen, named_required, required, threads, turns, ram, steps, log, word_if, crossed_required, crossed_turns, run_job, run_of, job_of, is_short, read_as, job_in, record_job, analyze_job, load_job}
+use Rattle.command_words.specs.Jobs.{Job, Run, Record, Analyze, Show, Load, Values, value_or, is_best, chosen, named_required, threads, turns, ram, steps, log, word_if, crossed_required, crossed_turns, run_job, run_of, job_of, is_short, read_as, job_in, record_job, analyze_job, load_job}
 use Rattle.command_words.specs.declared.command.Command.{Command}
 use Rattle.command_words.specs.Says.{Gives, says}
 use Rattle.command_words.specs.Sound.{IsBetween, IsLogSize, AreChosen, IsSoundRun, IsSound}
@@ -70,9 +69,9 @@ kept_by test (Some y) x h =
       | inr failed ↦ absurd (let e : None ≡ Some x = rw failed at h in let g : Some x ≡ None = sym e in cc)
     ]
 
-size_between : (text : List ℕ) (n : ℕ) → size_in text ≡ Some n → IsLogSize n
-unfolding size_in
-size_between text n h =
+log_between : (text : List ℕ) (n : ℕ) → log_in text ≡ Some n → IsLogSize n
+unfolding log_in
+log_between text n h =
     let kept = kept_by is_power_of_two (number_in 16 65536 text) n h in
     (number_between 16 65536 text n kept.0, kept.1)
 
@@ -163,17 +162,17 @@ chosen_sound : (values : Values) → AreChosen (chosen values)
 chosen_sound values = value_or_is AreChosen kinds kinds_in all_chosen kinds_chosen (values With)
 
 ram_sound : (values : Values) → IsBetween 64 16384 (ram values)
-ram_sound values = value_or_is (IsBetween 64 16384) 1024 (number_in 64 16384) (omega arith, omega arith) (number_between 64 16384) (values Ram)
+ram_sound values = value_or_is (IsBetween 64 16384) 1024 ram_in (omega arith, omega arith) (number_between 64 16384) (values Ram)
 
-steps_sound : (values : Values) → IsBetween 1 MOST_STEPS (steps values)
-steps_sound values = value_or_is (IsBetween 1 MOST_STEPS) 10000000 (number_in 1 MOST_STEPS) (omega arith, omega arith) (number_between 1 MOST_STEPS) (values Steps)
+steps_sound : (values : Values) → IsBetween 1 1000000000 (steps values)
+steps_sound values = value_or_is (IsBetween 1 1000000000) 10000000 steps_in (omega arith, omega arith) (number_between 1 1000000000) (values Steps)
 
 log_sound : (values : Values) → IsLogSize (log values)
 unfolding ones
-log_sound values = value_or_is IsLogSize 1024 size_in ((omega arith, omega arith), refl) size_between (values Log)
+log_sound values = value_or_is IsLogSize 1024 log_in ((omega arith, omega arith), refl) log_between (values Log)
 
 threads_sound : (values : Values) → IsBetween 0 8 (threads values)
-threads_sound values = value_or_is (IsBetween 0 8) 0 (number_in 0 8) (omega arith, omega arith) (number_between 0 8) (values Threads)
+threads_sound values = value_or_is (IsBetween 0 8) 0 threads_in (omega arith, omega arith) (number_between 0 8) (values Threads)
 
 same_job : (a b : Job) → (let r : Result Job WordsFault = Ok a in r) ≡ Ok b → a ≡ b
 same_job a b h = cc

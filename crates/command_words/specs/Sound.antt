@@ -1,8 +1,8 @@
 -- What holds of every job that words are.
-use Rattle.memory_map.specs.declared.TheConstants.{MOST_STEPS}
 use Rattle.std.specs.Prelude.{ℕ, ◌<◌, ◌≤◌, IsTrue, List, length}
 use Rattle.std.specs.Int.{is_power_of_two}
 use Rattle.std.specs.List.{All, Contains}
+use Rattle.memory_map.specs.declared.TheConstants.{LEAST_RAM_KIB, MOST_RAM_KIB, MOST_STEPS}
 use Rattle.run_events.specs.declared.finding.Kind.{Kind}
 use Rattle.run_settings.specs.Kinds.{EachOnce}
 use Rattle.run_settings.specs.Patterns.{IsPattern}
@@ -21,7 +21,7 @@ AreChosen kinds = (0 < length kinds) × EachOnce kinds
 
 -- the numbers are within their ends, the required analyses are among the chosen ones, and the turns are a pattern for them
 pub record IsSoundRun (run : RunJob) : Type 0 where
-  pub ram : IsBetween 64 16384 run.ram_kib
+  pub ram : IsBetween LEAST_RAM_KIB MOST_RAM_KIB run.ram_kib
   pub limit : IsBetween 1 MOST_STEPS run.limit
   pub log : IsLogSize run.log
   pub chosen : AreChosen run.kinds
@@ -32,7 +32,7 @@ pub record IsSoundRun (run : RunJob) : Type 0 where
 
 abbrev pub IsSound : Job → Type 0
 IsSound (Run run) = IsSoundRun run
-IsSound (Record job) = IsBetween 64 16384 job.ram_kib × IsBetween 1 MOST_STEPS job.limit
+IsSound (Record job) = IsBetween LEAST_RAM_KIB MOST_RAM_KIB job.ram_kib × IsBetween 1 MOST_STEPS job.limit
 IsSound (Analyze job) = AreChosen job.kinds
 IsSound (Show log_file) = Unit {0}
 IsSound (Load job) = IsBetween 1 100000 job.size × IsLogSize job.log × (job.threads ≤ 8)

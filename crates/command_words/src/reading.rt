@@ -11,9 +11,8 @@ use crate::assembling::command_of;
 use crate::command::Command;
 use crate::draft::{Draft, Given};
 use crate::fault::WordsFault;
-use crate::number::number_in;
 use crate::table::{CommandName, Setting};
-use crate::value::{is_option, is_plain, is_value};
+use crate::value::{is_option, is_plain, is_value, seed_in, size_in};
 
 // The option of a word, where the command has it and it has no value yet.
 #[tactic(auto, unfolding(crate::specs::Roles::option_of))]
@@ -34,8 +33,8 @@ fn meets_plain(command: CommandName, before: usize, word: &str) -> bool
     ensures { result ≡ meets_plain command before word.now }
 {
     match command {
-        CommandName::Load if before == 0 => number_in(word, 0, u32::MAX).is_some(),
-        CommandName::Load => number_in(word, 1, 100_000).is_some(),
+        CommandName::Load if before == 0 => seed_in(word).is_some(),
+        CommandName::Load => size_in(word).is_some(),
         CommandName::Run | CommandName::Record | CommandName::Analyze | CommandName::Show => true,
     }
 }
@@ -67,8 +66,10 @@ fn take_next<'a>(
     requires few { index ≤ spent draft.old }
     ensures few { IfOk result (λ next. next ≤ spent draft.new) }
     ensures short { result ≡ Err Missing → length words.now ≤ index + 1 }
-    ensures next { IfOk result (λ next. (before : List Role) → Holds before draft.old → Advances command (map string_bytes words.now) before index next draft.new) }
-    ensures refused { IfErr result (λ fault. (before : List Role) → Holds before draft.old → Refuses command before (roles (index + 2) None (drop index (map string_bytes words.now))) fault) }
+    ensures next { IfOk result (λ next. (before : List Role) → Holds before draft.old
+        → Advances command (map string_bytes words.now) before index next draft.new) }
+    ensures refused { IfErr result (λ fault. (before : List Role) → Holds before draft.old
+        → Refuses command before (roles (index + 2) None (drop index (map string_bytes words.now))) fault) }
 {
     let number = index as u32 + 2;
     let word = word_at(words, index);
