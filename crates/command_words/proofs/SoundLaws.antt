@@ -1,4 +1,5 @@
 -- Every job that words are is sound.
+use Rattle.memory_map.specs.declared.TheConstants.{MOST_STEPS}
 use Rattle.std.proofs.Common.{◌≡◌, ℕ, ◌<◌, ◌==◌, nat_lt, Bool, true, false, not, ◌||◌, if◌then◌else◌, List, [], ◌∷◌, length, codes, get_or, Option, Some, None, unwrap_or, Result, Ok, Err, IfOk, inl, inr, refl, sym, ◌∙◌, ap, subst, arith}
 use lib.Count.{ones}
 use Rattle.std.specs.Int.{is_power_of_two}
@@ -164,8 +165,8 @@ chosen_sound values = value_or_is AreChosen kinds kinds_in all_chosen kinds_chos
 ram_sound : (values : Values) → IsBetween 64 16384 (ram values)
 ram_sound values = value_or_is (IsBetween 64 16384) 1024 ram_in (omega arith, omega arith) (number_between 64 16384) (values Ram)
 
-steps_sound : (values : Values) → IsBetween 1 1000000000 (steps values)
-steps_sound values = value_or_is (IsBetween 1 1000000000) 10000000 steps_in (omega arith, omega arith) (number_between 1 1000000000) (values Steps)
+steps_sound : (values : Values) → IsBetween 1 MOST_STEPS (steps values)
+steps_sound values = value_or_is (IsBetween 1 MOST_STEPS) 10000000 steps_in (omega arith, omega arith) (number_between 1 MOST_STEPS) (values Steps)
 
 log_sound : (values : Values) → IsLogSize (log values)
 unfolding ones
