@@ -1,2 +1,3 @@
+pub mod GuestLaws
 pub mod LineLaws
-pub mod VariantLaws
+mod PartLaws

@@ -4,11 +4,11 @@ ghost use Rattle.after_edge.specs.Sink.{Writes, WritesPart};
 ghost use Rattle.analysis_model.specs.Report.{head_text};
 ghost use Rattle.analysis_set.specs.Head.{facts_of};
 
-use crate::line::Line;
 use crate::lines;
 use crate::put::put_lines;
 use after_edge::{Failed, Sink};
 use run_events::EndCause;
+use text_line::Line;
 
 /// What the head of the report tells of a run.
 #[derive(Clone, Copy, Debug, PartialEq, Eq)]

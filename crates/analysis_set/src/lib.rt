@@ -2,14 +2,15 @@
 #![tactic(auto)]
 
 mod analysis;
+mod any_analysis;
 mod head;
-mod line;
 mod lines;
 mod part;
 mod put;
 mod shared;
 
-pub use analysis::AnyAnalysis;
+pub use analysis::Analysis;
+pub use any_analysis::AnyAnalysis;
 pub use head::{RunFacts, report_head};
 pub use part::report_part;
 

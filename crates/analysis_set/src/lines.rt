@@ -1,10 +1,10 @@
 //! Each line of the report.
 ghost use Rattle.std.specs.Prelude.{◌≡◌, ◌+◌, ◌≤◌, ◌++◌, Option, Some, None, length};
-ghost use Rattle.analysis_model.specs.Report.{line, title_line, steps_line, end_line, output_line, records_line, kind_name, finding_name, step_text, findings_line, pcs_line, range_line, finding_line};
+ghost use Rattle.analysis_model.specs.Report.{line, title_line, steps_line, end_line, output_line, records_line, kind_name, finding_name, step_text, findings_line, pcs_line, range_line, finding_line, unmatched_line};
 ghost use Rattle.analysis_model.specs.Cover.{Span};
 
-use crate::line::Line;
 use run_events::{EndCause, Finding, FindingKind, Kind};
+use text_line::Line;
 
 #[tactic(auto, unfolding(analysis_model::specs::Report::title_line))]
 pub(crate) fn title() -> Line
@@ -27,7 +27,6 @@ pub(crate) fn end(cause: EndCause) -> Line
     match cause {
         EndCause::Power { status } => Line::new().text("end power ").number(status as u64).ended(),
         EndCause::Limit => Line::new().text("end limit").ended(),
-        EndCause::Stuck => Line::new().text("end stuck").ended(),
     }
 }
 
@@ -106,6 +105,13 @@ pub(crate) fn findings(kind: Kind, count: u64, first: Option<u32>) -> Line
         .number(count)
         .text(" first ");
     with_step(counted, first).ended()
+}
+
+#[tactic(auto, unfolding(analysis_model::specs::Report::unmatched_line))]
+pub(crate) fn unmatched(count: u64) -> Line
+    ensures { result ≡ unmatched_line count }
+{
+    Line::new().text("calls unmatched ").number(count).ended()
 }
 
 #[tactic(auto, unfolding(analysis_model::specs::Report::pcs_line))]

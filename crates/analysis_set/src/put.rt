@@ -4,10 +4,10 @@ ghost use Rattle.std.specs.List.{concat, flat_map};
 ghost use Rattle.after_edge.specs.Sink.{Writes, WritesPart};
 ghost use Rattle.analysis_model.specs.Report.{finding_line};
 
-use crate::line::Line;
 use crate::lines;
 use after_edge::{Failed, Sink};
 use run_events::{Finding, Kind};
+use text_line::Line;
 
 // Each of the lines, in order.
 pub(crate) fn put_lines<O: Sink>(all: &[Line], out: &mut O) -> Result<(), Failed>

@@ -72,7 +72,7 @@ way_access script step ram b (Store address width value true) way = way_after_st
 way_access script step ram b (Store address width value false) way = way
 way_access script step ram b (Swap address old new) way = way
 
-way_event : (script : Script) (step : ℕ) (ram : List ℕ) (b : BoardState) (event : Event) → IsUnderWay (length ram) b.activity → IsUnderWay (length ram) (after_event script step ram b event).activity
+pub way_event : (script : Script) (step : ℕ) (ram : List ℕ) (b : BoardState) (event : Event) → IsUnderWay (length ram) b.activity → IsUnderWay (length ram) (after_event script step ram b event).activity
 way_event script step ram b (Dma n address word mark) way = way
 way_event script step ram b (Irq n pc cause next) way = way
 way_event script step ram b (Trap n pc word cause value next) way = way

@@ -13,15 +13,17 @@ use Rattle.rv_decode.specs.Listing.{instruction}
 use Rattle.run_events.specs.declared.event.Event.{Event}
 use Rattle.run_events.specs.declared.event.Event.TheVariants.{Dma, Irq, Trap, Exec}
 use Rattle.run_events.specs.declared.finding.Finding.{Finding}
+use Rattle.run_events.specs.declared.finding.Kind.TheVariants as kind
 use Rattle.run_events.specs.Announcement.{announced_by, announced}
 use Rattle.analysis_model.specs.Calls.{Move, Push, Pop, moves_by, moves_of, moves_in, has_pop, is_return, return_to, calls_by, calls, unmatched, unmatched_by, answer_after, link_as, frames_kept}
+use Rattle.analysis_model.specs.Complaints.{findings}
 use Rattle.analysis_model.specs.Context.{entered, context_after}
 use Rattle.analysis_model.specs.Look.{Complaint, told_at, finding_of, found_at}
 use Rattle.analysis_model.proofs.ContextLaws.{context-more, context_small}
 use Rattle.analysis_model.proofs.LookLaws.{told_at-more}
 use Rattle.finding_tally.specs.Tallied.{Tallied, Tallies, tallied, tallied_with}
 use Rattle.finding_tally.proofs.TalliedLaws.{tallied_with-more}
-use Rattle.call_stacks.specs.Stacks.{Stacks, Holds, Stands, ring_of, pushed_on, popped_off, front_of, unmatched_with, moved, after, calls_found, unmatched_in}
+use Rattle.call_stacks.specs.Stacks.{Stacks, Holds, Stands, ring_of, pushed_on, popped_off, front_of, unmatched_with, moved, after, guest_now, unmatched_in}
 use Rattle.call_stacks.proofs.RingLaws.{Holds-none, Holds-push, Holds-pop}
 
 some_frames : 0 < frames_kept
@@ -167,7 +169,7 @@ Stands-more s event h stands =
       context_is = step.context_is ∙ ap (unwrap_or (entered (announced event))) stands.context_is ∙ sym (context-more h event);
       holds = λ context room. Holds_along frames_kept (ring_of (after s event) context) (ring_of (after s event) context) (moves_with s.context (moves_of event) context before) (moves_in context (reverse (h ++ event ∷ []))) refl (older context) (held.holds context room);
       counted = step.unmatched ∙ ap (λ answer. if is_return event then unmatched_with s.unmatched answer else s.unmatched) front ∙ counted-more s.unmatched (told_at (unmatched frames_kept) h) event (answer_after frames_kept before) stands.counted ∙ ap (λ told. min (length told) (2 ^ 64 - 1)) (sym (told_at-more (unmatched frames_kept) h event));
-      tallied = step.found ∙ ap (λ answer. tallied_with s.found (option_map (finding_of event) (calls_by answer event))) front ∙ tallied_with-more s.found (calls_found h) (found_at (calls frames_kept) before event) stands.tallied ∙ ap tallied (sym (told_at-more (found_at (calls frames_kept)) h event));
+      tallied = step.found ∙ ap (λ answer. tallied_with s.found (option_map (finding_of event) (calls_by answer event))) front ∙ tallied_with-more s.found (findings kind.Calls (guest_now s) h) (found_at (calls frames_kept) before event) stands.tallied ∙ ap tallied (sym (told_at-more (found_at (calls frames_kept)) h event));
     }
 
 -- a ring without frames

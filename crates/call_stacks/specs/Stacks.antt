@@ -8,10 +8,14 @@ use Rattle.rv_decode.specs.Listing.{instruction}
 use Rattle.run_events.specs.declared.event.Event.{Event}
 use Rattle.run_events.specs.declared.event.Event.TheVariants.{Dma, Irq, Trap, Exec}
 use Rattle.run_events.specs.declared.finding.Finding.{Finding}
+use Rattle.run_events.specs.declared.finding.Kind.TheVariants as kind
 use Rattle.run_events.specs.Announcement.{announced_by}
-use Rattle.analysis_model.specs.Calls.{Move, moves_in, answered, return_to, calls, unmatched_count, link_as, frames_kept}
+use Rattle.analysis_model.specs.Calls.{Move, moves_in, answered, return_to, unmatched_count, link_as, frames_kept}
+use Rattle.analysis_model.specs.Complaints.{Guest, findings}
 use Rattle.analysis_model.specs.Context.{entered, context_after}
-use Rattle.analysis_model.specs.Look.{Complaint, told_at, found_at}
+use Rattle.analysis_model.specs.Findings.{stopping}
+use Rattle.analysis_model.specs.Look.{Complaint}
+use Rattle.analysis_model.specs.Made.{guest_made_of}
 use Rattle.finding_tally.specs.Tallied.{Tallied, Tallies, tallied_with}
 
 -- what it keeps: the RAM size in KiB, the context, a ring of return addresses for each context, the number of pops that
@@ -27,6 +31,10 @@ pub record Stacks : Type 0 where
 abbrev pub make_now : Stacks → List ℕ
 make_now s = 2 ∷ []
 
+-- the guest that it is made for
+abbrev pub guest_now : Stacks → Guest
+guest_now s = guest_made_of s.ram_kib (make_now s)
+
 -- the ring of a context
 abbrev pub ring_of : Stacks → ℕ → Buffer ℕ
 ring_of s context = slice_index_or s.rings context (buffer [] 0)
@@ -38,21 +46,17 @@ pub record Holds (bound : ℕ) (ring : Buffer ℕ) (moves : List Move) : Type 0 
   pub few : length ring.items ≤ bound
   pub answers : (waiting : ℕ) → waiting < bound → answered bound waiting moves ≡ slice_get ring.items waiting
 
--- the findings over a run
-abbrev pub calls_found : List Event → List Finding
-calls_found events = told_at (found_at (calls frames_kept)) events
-
 -- the number of pops that answer no push, which stops at the end of its type
 abbrev pub unmatched_in : List Event → ℕ
-unmatched_in events = min (unmatched_count frames_kept events) (2 ^ 64 - 1)
+unmatched_in events = stopping (unmatched_count frames_kept events)
 
--- it has seen exactly these events
+-- it stands for these events
 pub record Stands (s : Stacks) (events : List Event) : Type 0 where
   pub whole : length s.rings ≡ 64
   pub context_is : s.context ≡ context_after (reverse events)
   pub holds : (context : ℕ) → context < 64 → Holds frames_kept (ring_of s context) (moves_in context (reverse events))
   pub counted : s.unmatched ≡ unmatched_in events
-  pub tallied : Tallies s.found (calls_found events)
+  pub tallied : Tallies s.found (findings kind.Calls (guest_now s) events)
 
 -- with another ring of the context
 abbrev pub with_ring : Stacks → Buffer ℕ → Stacks

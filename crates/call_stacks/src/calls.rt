@@ -1,13 +1,14 @@
 //! The analysis of calls and returns.
 ghost use Rattle.std.specs.Prelude.{◌≡◌, ℕ, ◌+◌, ◌*◌, ◌^◌, ◌<◌, ◌≤◌, List, [], ◌∷◌, ◌++◌, length, Option, IfOk};
 ghost use Rattle.run_events.specs.declared.event.Event.{Event};
-ghost use Rattle.run_events.specs.declared.finding.Kind.TheVariants.{Calls as calls_kind};
+ghost use Rattle.run_events.specs.declared.finding.Kind.TheVariants as kind;
 ghost use Rattle.run_events.specs.Announcement.{announced_by};
 ghost use Rattle.run_events.specs.Event.{Fits, IsWordInRam};
+ghost use Rattle.analysis_model.specs.Complaints.{findings};
 ghost use Rattle.analysis_model.specs.Context.{entered};
 ghost use Rattle.analysis_model.specs.Findings.{first_step, tally, kept};
 ghost use Rattle.analysis_model.specs.Made.{make_of};
-ghost use Rattle.call_stacks.specs.Stacks.{Stacks, Stands, make_now, calls_found, unmatched_in, pushed, popped, front_of, judged, returned, moved, in_context, after};
+ghost use Rattle.call_stacks.specs.Stacks.{Stacks, Stands, make_now, guest_now, unmatched_in, pushed, popped, front_of, judged, returned, moved, in_context, after};
 
 use crate::moves::link_of_word;
 use crate::rings::{Frames, empty_rings};
@@ -57,7 +58,7 @@ impl Calls {
         requires most { ram_kib ≤ 16384 }
         ensures seen { IfOk result (λ c. Stands c []) }
         ensures size { IfOk result (λ c. c.ram_kib ≡ ram_kib) }
-        ensures made { IfOk result (λ c. make_now c ≡ make_of calls_kind _image.now) }
+        ensures made { IfOk result (λ c. make_now c ≡ make_of kind.Calls _image.now) }
     {
         Ok(Calls {
             ram_kib,
@@ -71,7 +72,8 @@ impl Calls {
     /// The step of the first finding.
     pub fn first(&self) -> Option<u32>
         ensures now { result ≡ self.now.found.first }
-        ensures seen { (h : List Event) → Stands self.now h → result ≡ first_step (calls_found h) }
+        ensures seen { (h : List Event) → Stands self.now h →
+            result ≡ first_step (findings kind.Calls (guest_now self.now) h) }
     {
         self.found.first()
     }
@@ -79,7 +81,8 @@ impl Calls {
     /// How many findings there are, at most 2^64 - 1.
     pub fn count(&self) -> u64
         ensures now { result ≡ self.now.found.count }
-        ensures seen { (h : List Event) → Stands self.now h → result ≡ tally (calls_found h) }
+        ensures seen { (h : List Event) → Stands self.now h →
+            result ≡ tally (findings kind.Calls (guest_now self.now) h) }
     {
         self.found.count()
     }
@@ -87,7 +90,8 @@ impl Calls {
     /// The first findings, at most 64, in order.
     pub fn kept(&self) -> &[Finding]
         ensures now { result.now ≡ self.now.found.kept }
-        ensures seen { (h : List Event) → Stands self.now h → result.now ≡ kept (calls_found h) }
+        ensures seen { (h : List Event) → Stands self.now h →
+            result.now ≡ kept (findings kind.Calls (guest_now self.now) h) }
     {
         self.found.kept()
     }

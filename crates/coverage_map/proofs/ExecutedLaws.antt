@@ -8,7 +8,7 @@ use Rattle.memory_map.specs.declared.TheConstants.{RAM_START}
 use Rattle.run_events.specs.declared.event.Event.{Event}
 use Rattle.analysis_model.specs.Ascending.{with_member, ascending}
 use Rattle.analysis_model.specs.Cover.{Span, executed_pc, joined, runs, is_within}
-use Rattle.coverage_map.specs.Coverage.{Covered, Stands, marked_from, marked, summary_now}
+use Rattle.coverage_map.specs.Coverage.{Covered, Stands, marked_from, marked, ranges_now}
 use Rattle.coverage_map.proofs.AscendingLaws.{with_member-same, with_member-before, with_member-behind}
 use Rattle.coverage_map.specs.Executed.{is_byte_of, AscendFrom, AreExecuted}
 
@@ -81,7 +81,7 @@ list_any-ascending : (p : ℕ → Bool) (xs : List ℕ) → list_any p (ascendin
 list_any-ascending p [] = refl
 list_any-ascending p (x ∷ xs) = list_any-with_member p x (ascending xs) ∙ ap (λ rest. p x || rest) (list_any-ascending p xs)
 
-pub Stands-AreExecuted : (c : Covered) (h : List Event) → Stands c h → AreExecuted (summary_now c).ranges h
+pub Stands-AreExecuted : (c : Covered) (h : List Event) → Stands c h → AreExecuted (ranges_now c) h
 Stands-AreExecuted c h stands =
     let words = WordsFrom-less 0 RAM_START (marked c.marks) (omega arith) (WordsFrom-marked RAM_START c.marks) in
     record {

@@ -4,10 +4,9 @@ use Rattle.memory_map.specs.declared.TheConstants.{RAM_START}
 use Rattle.run_events.specs.declared.event.Event.{Event}
 use Rattle.run_events.specs.declared.event.Event.TheVariants.{Dma, Irq, Trap, Exec}
 use Rattle.run_events.specs.declared.finding.Kind.TheVariants.{Cover}
-use Rattle.analysis_model.specs.Cover.{executed_pcs, outside_at, runs}
-use Rattle.analysis_model.specs.Findings.{findings}
-use Rattle.analysis_model.specs.Made.{code_made_of}
-use Rattle.analysis_model.specs.Report.{Summary}
+use Rattle.analysis_model.specs.Complaints.{Guest, findings}
+use Rattle.analysis_model.specs.Cover.{Span, executed_pcs, outside_at, runs}
+use Rattle.analysis_model.specs.Made.{code_made_of, guest_made_of}
 use Rattle.finding_tally.specs.Tallied.{Tallied, Tallies, tallied_with}
 use Rattle.coverage_map.specs.declared.area.Area.{Area}
 
@@ -31,6 +30,10 @@ area_numbers (area ∷ areas) = area.address ∷ area.size ∷ area_numbers area
 abbrev pub make_now : Covered → List ℕ
 make_now c = 3 ∷ area_numbers c.code
 
+-- the guest that it is made for
+abbrev pub guest_now : Covered → Guest
+guest_now c = guest_made_of c.ram_kib (make_now c)
+
 -- the addresses of the marked words, where the first mark is of the word at this address
 abbrev pub marked_from : ℕ → List Bool → List ℕ
 marked_from address [] = []
@@ -39,22 +42,19 @@ marked_from address (mark ∷ marks) = if mark then address ∷ marked_from (add
 abbrev pub marked : List Bool → List ℕ
 marked marks = marked_from RAM_START marks
 
--- it has seen exactly these events: of the words of RAM those are marked that the events executed, and the findings
--- are theirs
+-- it stands for these events: of the words of RAM those are marked that the events executed, and the findings are
+-- theirs
 pub record Stands (c : Covered) (events : List Event) : Type 0 where
   pub whole : length c.marks ≡ 256 * c.ram_kib
   pub executed : marked c.marks ≡ executed_pcs events
-  pub tallied : Tallies c.found (findings Cover (code_made_of (make_now c)) events)
+  pub tallied : Tallies c.found (findings Cover (guest_now c) events)
 
--- what it tells
-abbrev pub summary_now : Covered → Summary
-summary_now c = record {
-  first = c.found.first;
-  count = c.found.count;
-  kept = c.found.kept;
-  pcs = length (marked c.marks);
-  ranges = runs (marked c.marks);
-}
+-- the pc values that it tells, and the ranges
+abbrev pub pcs_now : Covered → List ℕ
+pcs_now c = marked c.marks
+
+abbrev pub ranges_now : Covered → List Span
+ranges_now c = runs (pcs_now c)
 
 -- with the mark of the word at this address
 abbrev pub with_mark : Covered → ℕ → Covered

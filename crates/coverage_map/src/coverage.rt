@@ -1,11 +1,13 @@
 //! Coverage: marks a word of RAM, and findings.
 ghost use Rattle.std.specs.Prelude.{◌≡◌, ℕ, ◌*◌, ◌<◌, ◌≤◌, List, [], ◌∷◌, ◌++◌, length, slice_get, IfOk};
 ghost use Rattle.run_events.specs.declared.event.Event.{Event};
-ghost use Rattle.run_events.specs.declared.finding.Kind.TheVariants.{Cover};
+ghost use Rattle.run_events.specs.declared.finding.Kind.TheVariants as kind;
 ghost use Rattle.run_events.specs.Event.{Fits, IsWordInRam};
-ghost use Rattle.analysis_model.specs.Made.{make_of, code_made_of};
-ghost use Rattle.analysis_model.specs.Report.{Summary, cover_summary};
-ghost use Rattle.coverage_map.specs.Coverage.{Covered, Stands, make_now, summary_now, with_mark, with_outside, after};
+ghost use Rattle.analysis_model.specs.Complaints.{findings};
+ghost use Rattle.analysis_model.specs.Cover.{executed_pcs, executed_ranges};
+ghost use Rattle.analysis_model.specs.Findings.{first_step, tally, kept};
+ghost use Rattle.analysis_model.specs.Made.{make_of};
+ghost use Rattle.coverage_map.specs.Coverage.{Covered, Stands, make_now, guest_now, pcs_now, ranges_now, with_mark, with_outside, after};
 ghost use Rattle.coverage_map.specs.Executed.{AreExecuted};
 
 use crate::area::{Area, code_of, is_code};
@@ -53,7 +55,7 @@ impl Coverage {
         requires most { ram_kib ≤ 16384 }
         ensures seen { IfOk result (λ c. Stands c []) }
         ensures size { IfOk result (λ c. c.ram_kib ≡ ram_kib) }
-        ensures made { IfOk result (λ c. make_now c ≡ make_of Cover image.now) }
+        ensures made { IfOk result (λ c. make_now c ≡ make_of kind.Cover image.now) }
     {
         let code = code_of(alloc, &image.segments)?;
         let marks = vec![in alloc; false; 256 * ram_kib as usize]?;
@@ -67,51 +69,54 @@ impl Coverage {
 
     /// The step of the first finding.
     pub fn first(&self) -> Option<u32>
-        ensures now { result ≡ (summary_now self.now).first }
-        ensures seen { (h : List Event) → Stands self.now h → result ≡ (cover_summary (code_made_of (make_now self.now)) h).first }
+        ensures now { result ≡ self.now.found.first }
+        ensures seen { (h : List Event) → Stands self.now h →
+            result ≡ first_step (findings kind.Cover (guest_now self.now) h) }
     {
         self.found.first()
     }
 
     /// How many findings there are, at most 2^64 - 1.
     pub fn count(&self) -> u64
-        ensures now { result ≡ (summary_now self.now).count }
-        ensures seen { (h : List Event) → Stands self.now h → result ≡ (cover_summary (code_made_of (make_now self.now)) h).count }
+        ensures now { result ≡ self.now.found.count }
+        ensures seen { (h : List Event) → Stands self.now h →
+            result ≡ tally (findings kind.Cover (guest_now self.now) h) }
     {
         self.found.count()
     }
 
     /// The first findings, at most 64, in order.
     pub fn kept(&self) -> &[Finding]
-        ensures now { result.now ≡ (summary_now self.now).kept }
-        ensures seen { (h : List Event) → Stands self.now h → result.now ≡ (cover_summary (code_made_of (make_now self.now)) h).kept }
+        ensures now { result.now ≡ self.now.found.kept }
+        ensures seen { (h : List Event) → Stands self.now h →
+            result.now ≡ kept (findings kind.Cover (guest_now self.now) h) }
     {
         self.found.kept()
     }
 
     /// How many pc values were executed.
     pub fn pcs(&self) -> u64
-        ensures now { result ≡ (summary_now self.now).pcs }
-        ensures seen { (h : List Event) → Stands self.now h → result ≡ (cover_summary (code_made_of (make_now self.now)) h).pcs }
+        ensures now { result ≡ length (pcs_now self.now) }
+        ensures seen { (h : List Event) → Stands self.now h → result ≡ length (executed_pcs h) }
     {
         count_marks(&self.marks)
     }
 
     /// How many ranges of addresses the executed words make up.
     pub fn ranges(&self) -> u64
-        ensures now { result ≡ length (summary_now self.now).ranges }
-        ensures seen { (h : List Event) → Stands self.now h → result ≡ length (cover_summary (code_made_of (make_now self.now)) h).ranges }
+        ensures now { result ≡ length (ranges_now self.now) }
+        ensures seen { (h : List Event) → Stands self.now h → result ≡ length (executed_ranges h) }
         // what a reader knows of them: they ascend, lie apart, and have exactly the executed bytes
-        ensures executed { (h : List Event) → Stands self.now h → AreExecuted (summary_now self.now).ranges h }
+        ensures executed { (h : List Event) → Stands self.now h → AreExecuted (ranges_now self.now) h }
     {
         count_ranges(&self.marks)
     }
 
     /// The range with this index, in ascending order: its first address, and the one behind its last.
     pub fn range(&self, index: u64) -> (u32, u32)
-        requires { index < length (summary_now self.now).ranges }
-        ensures now { slice_get (summary_now self.now).ranges index ≡ Some (record { from = result.0; to = result.1 }) }
-        ensures seen { (h : List Event) → Stands self.now h → slice_get (cover_summary (code_made_of (make_now self.now)) h).ranges index ≡ Some (record { from = result.0; to = result.1 }) }
+        requires { index < length (ranges_now self.now) }
+        ensures now { slice_get (ranges_now self.now) index ≡ Some (record { from = result.0; to = result.1 }) }
+        ensures seen { (h : List Event) → Stands self.now h → slice_get (executed_ranges h) index ≡ Some (record { from = result.0; to = result.1 }) }
     {
         find_range(&self.marks, index)
     }

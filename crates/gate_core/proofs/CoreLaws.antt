@@ -32,7 +32,7 @@ reach_rises items h m n low =
 set_keeps : (P : ℕ → ℕ → Type 0) (xs : List ℕ) (i y : ℕ) → ((k : ℕ) → k < length xs → P k (slice_index xs k)) → P i y → (k : ℕ) → k < length xs → P k (slice_index (slice_set xs i y) k)
 set_keeps P xs i y all here k low = grind (arith, get_or-set_same, get_or-set_other, cases_eq k i, all k low)
 
-set_grows : (xs : List ℕ) (i y : ℕ) → slice_index xs i ≤ y → (k : ℕ) → slice_index xs k ≤ slice_index (slice_set xs i y) k
+pub set_grows : (xs : List ℕ) (i y : ℕ) → slice_index xs i ≤ y → (k : ℕ) → slice_index xs k ≤ slice_index (slice_set xs i y) k
 set_grows xs i y low k = grind (arith, get_or-set_same, get_or-set_other, set_past, cases_eq k i, cases_lt i (length xs))
 
 opening_IsSound : (plan : Plan) → IsSound plan (opening plan)

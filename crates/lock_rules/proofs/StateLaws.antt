@@ -12,7 +12,9 @@ use Rattle.run_events.specs.declared.event.Event.{Event}
 use Rattle.run_events.specs.declared.event.Event.TheVariants.{Dma, Irq, Trap, Exec}
 use Rattle.run_events.specs.declared.finding.Finding.{Finding}
 use Rattle.run_events.specs.Access.{touched_from, touched_len}
+use Rattle.run_events.specs.declared.finding.Kind.TheVariants as kind
 use Rattle.run_events.specs.Announcement.{announced_by, announced}
+use Rattle.analysis_model.specs.Complaints.{findings}
 use Rattle.analysis_model.specs.Context.{entered, context_after}
 use Rattle.analysis_model.specs.Locks.{Guarded, named, named_by, counted, has_lock, guard_at, guard_by, guards, holder_after, is_unguarded, bad_access, lock_by, access_by, locks, locks_kept}
 use Rattle.analysis_model.specs.Look.{Complaint, told_at, finding_at, finding_of, found_at}
@@ -24,7 +26,7 @@ use Rattle.finding_tally.proofs.TalliedLaws.{tallied_with-more}
 use Rattle.lock_rules.specs.declared.lock.Lock.{Lock}
 use Rattle.lock_rules.specs.declared.guard.Guard.{Guard}
 use Rattle.lock_rules.specs.Entries.{numbers, holder_of, is_open, range_of}
-use Rattle.lock_rules.specs.State.{LockState, Stands, AreHeld, locks_found, known_with, known_after, held_after, guards_after, told_state, heard, opened, noted, after}
+use Rattle.lock_rules.specs.State.{LockState, Stands, AreHeld, guest_now, known_with, known_after, held_after, guards_after, told_state, heard, opened, noted, after}
 use Rattle.lock_rules.proofs.CountedLaws.{counted_with, counted-more, numbers-known}
 use Rattle.lock_rules.proofs.HeldLaws.{AreHeldNow, held-known, held-after, numbers-held, held-of, lock_by-same}
 use Rattle.lock_rules.proofs.GuardLaws.{ArePlaced, open-unguarded, ranges-known, ranges-after, placed-after}
@@ -109,7 +111,7 @@ stands-after s event h stands =
           ∙ ap (take locks_kept) (sym (told_at-more (guard_at locks_kept) h event));
       tallied =
           ap (λ o. tallied_with s.found (option_map (finding_of event) o)) (complaint-same s h event stands)
-          ∙ tallied_with-more s.found (locks_found h) (found_at (locks locks_kept) before event) stands.tallied
+          ∙ tallied_with-more s.found (findings kind.Locks (guest_now s) h) (found_at (locks locks_kept) before event) stands.tallied
           ∙ ap tallied (sym (told_at-more (found_at (locks locks_kept)) h event));
     }
 

@@ -9,11 +9,14 @@ use Rattle.run_events.specs.declared.announcement.Announcement.TheVariants as an
 use Rattle.run_events.specs.declared.event.Event.{Event}
 use Rattle.run_events.specs.declared.event.Event.TheVariants.{Dma, Irq, Trap, Exec}
 use Rattle.run_events.specs.declared.finding.Finding.{Finding}
+use Rattle.run_events.specs.declared.finding.Kind.TheVariants as kind
 use Rattle.run_events.specs.Access.{touched_from, touched_len}
 use Rattle.run_events.specs.Announcement.{announced_by}
+use Rattle.analysis_model.specs.Complaints.{Guest, findings}
 use Rattle.analysis_model.specs.Context.{entered, context_after}
-use Rattle.analysis_model.specs.Locks.{named_by, counted, has_lock, guard_at, holder_after, bad_access, lock_by, locks, locks_kept}
-use Rattle.analysis_model.specs.Look.{Complaint, told_at, finding_at, found_at}
+use Rattle.analysis_model.specs.Locks.{named_by, counted, has_lock, guard_at, holder_after, bad_access, lock_by, locks_kept}
+use Rattle.analysis_model.specs.Look.{Complaint, told_at, finding_at}
+use Rattle.analysis_model.specs.Made.{guest_made_of}
 use Rattle.finding_tally.specs.Tallied.{Tallied, Tallies, tallied_with}
 use Rattle.lock_rules.specs.declared.lock.Lock.{Lock}
 use Rattle.lock_rules.specs.declared.guard.Guard.{Guard}
@@ -31,22 +34,22 @@ pub record LockState : Type 0 where
 abbrev pub make_now : LockState → List ℕ
 make_now s = 4 ∷ []
 
--- the findings over a run
-abbrev pub locks_found : List Event → List Finding
-locks_found events = told_at (found_at (locks locks_kept)) events
+-- the guest that it is made for
+abbrev pub guest_now : LockState → Guest
+guest_now s = guest_made_of s.ram_kib (make_now s)
 
 -- each lock has the holder that the events, the newest first, left it
 abbrev pub AreHeld : List Lock → List Event → Type 0
 AreHeld entries before = AllByRecursion (λ lock. lock.holder ≡ holder_after before lock.number) entries
 
--- it has seen exactly these events
+-- it stands for these events
 pub record Stands (s : LockState) (events : List Event) : Type 0 where
   pub context_is : s.context ≡ context_after (reverse events)
   pub known : numbers s.locks ≡ counted locks_kept (reverse events)
   pub held : AreHeld s.locks (reverse events)
   pub placed : AllByRecursion (λ guard. guard.place < length s.locks) s.guards
   pub guarded : map (range_of (numbers s.locks)) s.guards ≡ take locks_kept (told_at (guard_at locks_kept) events)
-  pub tallied : Tallies s.found (locks_found events)
+  pub tallied : Tallies s.found (findings kind.Locks (guest_now s) events)
 
 -- the locks that count once this one is named: one more, where there is room
 abbrev pub known_with : List Lock → Option ℕ → List Lock

@@ -4,12 +4,13 @@ ghost use Rattle.std.specs.Option.{option_map};
 ghost use Rattle.std.specs.List.{position_from};
 ghost use Rattle.run_events.specs.declared.announcement.Announcement.TheVariants as announce;
 ghost use Rattle.run_events.specs.declared.event.Event.{Event};
-ghost use Rattle.run_events.specs.declared.finding.Kind.TheVariants.{Locks as locks_kind};
+ghost use Rattle.run_events.specs.declared.finding.Kind.TheVariants as kind;
+ghost use Rattle.analysis_model.specs.Complaints.{findings};
 ghost use Rattle.analysis_model.specs.Findings.{first_step, tally, kept};
 ghost use Rattle.analysis_model.specs.Locks.{locks_kept, bad_acquire, bad_release};
 ghost use Rattle.analysis_model.specs.Made.{make_of};
 ghost use Rattle.analysis_model.specs.Look.{finding_at};
-ghost use Rattle.lock_rules.specs.State.{Stands, make_now, locks_found, known_with, guards_with, told_state, heard, opened, noted, after};
+ghost use Rattle.lock_rules.specs.State.{Stands, make_now, guest_now, known_with, guards_with, told_state, heard, opened, noted, after};
 
 use crate::guard::{Guard, least_open};
 use crate::lock::{Lock, holder_of, is_held_by, is_known, place_of, set_holder};
@@ -66,7 +67,7 @@ impl Locks {
         requires most { ram_kib ≤ 16384 }
         ensures seen { IfOk result (λ l. Stands l []) }
         ensures size { IfOk result (λ l. l.ram_kib ≡ ram_kib) }
-        ensures made { IfOk result (λ l. make_now l ≡ make_of locks_kind _image.now) }
+        ensures made { IfOk result (λ l. make_now l ≡ make_of kind.Locks _image.now) }
     {
         Ok(Locks {
             ram_kib,
@@ -80,7 +81,8 @@ impl Locks {
     /// The step of the first finding.
     pub fn first(&self) -> Option<u32>
         ensures now { result ≡ self.now.found.first }
-        ensures seen { (h : List Event) → Stands self.now h → result ≡ first_step (locks_found h) }
+        ensures seen { (h : List Event) → Stands self.now h →
+            result ≡ first_step (findings kind.Locks (guest_now self.now) h) }
     {
         self.found.first()
     }
@@ -88,7 +90,8 @@ impl Locks {
     /// How many findings there are, at most 2^64 - 1.
     pub fn count(&self) -> u64
         ensures now { result ≡ self.now.found.count }
-        ensures seen { (h : List Event) → Stands self.now h → result ≡ tally (locks_found h) }
+        ensures seen { (h : List Event) → Stands self.now h →
+            result ≡ tally (findings kind.Locks (guest_now self.now) h) }
     {
         self.found.count()
     }
@@ -96,7 +99,8 @@ impl Locks {
     /// The first findings, at most 64, in order.
     pub fn kept(&self) -> &[Finding]
         ensures now { result.now ≡ self.now.found.kept }
-        ensures seen { (h : List Event) → Stands self.now h → result.now ≡ kept (locks_found h) }
+        ensures seen { (h : List Event) → Stands self.now h →
+            result.now ≡ kept (findings kind.Locks (guest_now self.now) h) }
     {
         self.found.kept()
     }

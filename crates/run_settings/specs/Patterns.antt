@@ -1,5 +1,5 @@
 -- The patterns of turns.
-use Rattle.std.specs.Prelude.{◌≡◌, ◌⊎◌, ℕ, ◌+◌, ◌-◌, ◌≤◌, ◌<◌, List}
+use Rattle.std.specs.Prelude.{ℕ, ◌<◌, List}
 use Rattle.std.specs.List.{All, Contains}
 use Rattle.run_settings.specs.declared.letter.Letter.{Letter}
 use Rattle.run_settings.specs.declared.letter.Letter.TheVariants.{Record, Read, Release}

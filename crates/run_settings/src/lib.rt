@@ -1,6 +1,8 @@
 //! What a run is asked for: which analyses look at it, and in which turns it goes on.
 #![tactic(auto)]
 
+mod kinds;
 mod letter;
 
+pub use kinds::Kinds;
 pub use letter::Letter;

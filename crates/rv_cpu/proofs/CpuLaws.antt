@@ -1,5 +1,5 @@
 -- What a step that was done, or tried, keeps.
-use Rattle.std.proofs.Common.{◌≡◌, ℕ, ◌*◌, Bool, true, false, IsTrue, Option, None, length, refl, subst, sym, ap}
+use Rattle.std.proofs.Common.{◌≡◌, ◌∙◌, ℕ, zero, suc, ◌*◌, Bool, true, false, IsTrue, Option, None, length, refl, subst, sym, ap}
 use Rattle.run_events.specs.Event.{Fits}
 use Rattle.run_events.specs.declared.event.Event.{Event}
 use Rattle.run_events.specs.declared.supply.Supplied.{Supplied}
@@ -7,6 +7,7 @@ use Rattle.hart_model.proofs.SoundLaws.{cpu_keeps, cpu_fits}
 use Rattle.hart_model.specs.Aligned.{IsAligned}
 use Rattle.hart_model.specs.State.{State}
 use Rattle.hart_model.specs.Step.{cpu}
+use Rattle.rv_cpu.specs.PlainRun.{plain_after, plain_next}
 
 -- a step that gives this event and this state keeps the alignment and the size of RAM, and its event fits
 module _ (s t : State) (lines : ℕ) (supplied : Option Supplied) (event : Event) (is : cpu s lines supplied ≡ (event, t)) where
@@ -27,3 +28,14 @@ tried_aligned s t lines event false step same a = subst (λ (u : State). IsAlign
 pub tried_sized : (s t : State) (lines : ℕ) (event : Event) (done : Bool) → (IsTrue done → cpu s lines None ≡ (event, t)) → (done ≡ false → t ≡ s) → length t.ram ≡ length s.ram
 tried_sized s t lines event true step same = step_sized s t lines None event (step refl)
 tried_sized s t lines event false step same = ap (λ (u : State). length u.ram) (same refl)
+
+-- several steps that are given nothing keep both
+pub after_aligned : (lines count : ℕ) (s : State) → IsAligned s → IsAligned (plain_after lines count s)
+unfolding plain_after
+after_aligned lines zero s a = a
+after_aligned lines (suc count) s a = after_aligned lines count (plain_next lines s) ((cpu_keeps s lines None).aligned a)
+
+pub after_sized : (lines count : ℕ) (s : State) → length (plain_after lines count s).ram ≡ length s.ram
+unfolding plain_after
+after_sized lines zero s = refl
+after_sized lines (suc count) s = after_sized lines count (plain_next lines s) ∙ (cpu_keeps s lines None).sized

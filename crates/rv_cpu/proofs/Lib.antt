@@ -1,3 +1,4 @@
+pub mod BatchLaws
 pub mod CpuLaws
 pub mod MidwayLaws
 pub mod PlainLaws

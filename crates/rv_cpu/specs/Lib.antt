@@ -1,3 +1,5 @@
+pub mod Batch
 pub mod Midway
 pub mod Plain
+pub mod PlainRun
 pub mod Sized

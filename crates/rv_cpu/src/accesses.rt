@@ -24,9 +24,9 @@ pub fn is_aligned(address: u32, width: u32) -> bool
     address & (width - 1) == 0
 }
 
-// The low bytes of a word.
+/// The low bytes of a word.
 #[inline(always)]
-fn low_bytes(width: u32, word: u32) -> u32
+pub fn low_bytes(width: u32, word: u32) -> u32
     requires { IsWidth width }
     ensures { result ≡ model.low_bytes width word }
 {
@@ -57,9 +57,9 @@ fn mark_of(supplied: Option<Supplied>) -> u8
 }
 
 impl Engine {
-    // Whether the bytes [address, address + width) are aligned and stand in RAM.
+    /// Whether the bytes [address, address + width) are aligned and stand in RAM.
     #[inline(always)]
-    fn has_aligned(&self, address: u32, width: u32) -> bool
+    pub fn has_aligned(&self, address: u32, width: u32) -> bool
         requires { IsWidth width }
         ensures { result ≡ (address % width == 0 && in_ram (length self.now.ram) address width) }
     {

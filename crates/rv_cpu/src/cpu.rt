@@ -1,5 +1,5 @@
 //! The hart as its callers see it.
-ghost use Rattle.std.specs.Prelude.{◌≡◌, ◌*◌, ◌%◌, ◌<◌, ℕ, false, None, Some, IsTrue, is_some, length, slice_index};
+ghost use Rattle.std.specs.Prelude.{◌≡◌, ◌+◌, ◌*◌, ◌%◌, ◌<◌, ◌≤◌, ℕ, false, None, Some, IsTrue, is_some, length, slice_index};
 ghost use Rattle.any_machine.specs.Machine.{is_load};
 ghost use Rattle.run_events.specs.Event.{Fits};
 
@@ -31,6 +31,7 @@ impl Cpu {
     ghost use Rattle.hart_model.specs.State.{register, reset_state};
     ghost use Rattle.hart_model.specs.Step.{cpu, needs, touch};
     ghost use Rattle.rv_cpu.specs.Plain.{is_plain};
+    ghost use Rattle.rv_cpu.specs.PlainRun.{are_plain, plain_after};
 
     /// A hart at step 0: all registers are 0, the CSRs are those of reset, no word is reserved. `entry` is the address of
     /// its first instruction. It takes no memory.
@@ -76,6 +77,19 @@ impl Cpu {
             ≡ 1024 * ram_kib → Fits ram_kib event.new }
     {
         self.engine.try_step(lines, event)
+    }
+
+    /// Does the next steps with these interrupt lines as long as they are plain ones, as `try_step` says, and at most so
+    /// many. It answers how many it did. None of them needs or stores anything outside RAM.
+    pub fn run_plain(&mut self, lines: u8, at_most: u32) -> u32
+        requires { self.old.step + at_most ≤ 1000000000 }
+        ensures few { result ≤ at_most }
+        ensures plain { IsTrue (are_plain lines result self.old) }
+        ensures state { plain_after lines result self.old ≡ self.new }
+        ensures stops { result < at_most → is_plain self.new lines ≡ false }
+        ensures size { length self.new.ram ≡ length self.old.ram }
+    {
+        self.engine.run_plain(lines, at_most)
     }
 
     /// Whether the address is that of an aligned word in RAM.

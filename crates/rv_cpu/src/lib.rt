@@ -4,6 +4,7 @@
 mod accesses;
 mod alu;
 mod atomics;
+mod batch;
 mod cpu;
 mod done;
 mod engine;

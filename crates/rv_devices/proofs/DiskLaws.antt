@@ -1,12 +1,10 @@
 -- A command of the disk that is begun.
-use Rattle.std.proofs.Common.{◌≡◌, ◌≢◌, ℕ, ◌+◌, ◌-◌, ◌*◌, ◌/◌, ◌^◌, ◌<◌, ◌≤◌, Bool, true, false, List, [], length, take, drop, refl, sym, ◌∙◌, ap, arith}
+use Rattle.std.proofs.Common.{◌≡◌, ℕ, ◌+◌, ◌<◌, ◌≤◌, Bool, true, false, List, [], length, refl, arith}
 use Rattle.std.specs.Prelude.{◌==◌, if◌then◌else◌}
 use Rattle.memory_map.specs.declared.TheConstants.{RAM_START}
 use Rattle.machine_model.specs.Script.{Script}
 use Rattle.machine_model.specs.Board as model
 use Rattle.machine_model.specs.Board.{words_of}
-use Rattle.rv_devices.specs.declared.transfer.Transfer.{Transfer}
-use Rattle.rv_devices.specs.Sends.{unsent, words_left}
 
 -- a status other than 1 is not busy
 pub not_busy : (a : model.Activity) → (model.status_of a ≡ 1 → ⊥) → model.is_busy a ≡ false

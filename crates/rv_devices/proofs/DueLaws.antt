@@ -1,5 +1,5 @@
 -- What is due at a step, read off the whole script, is what stands before the place of a schedule.
-use Rattle.std.proofs.Common.{◌≡◌, ℕ, zero, suc, ◌+◌, ◌-◌, ◌*◌, ◌/◌, ◌<◌, ◌≤◌, Bool, true, false, List, [], ◌∷◌, ◌++◌, length, map, take, drop, Option, Some, None, is_some, slice_get, refl, sym, ◌∙◌, ap, arith, inl, inr}
+use Rattle.std.proofs.Common.{◌≡◌, ℕ, zero, suc, ◌+◌, ◌<◌, ◌≤◌, true, false, List, [], ◌∷◌, ◌++◌, length, take, drop, Option, None, is_some, slice_get, refl, sym, ◌∙◌, ap, arith, inl, inr}
 use Rattle.std.specs.Prelude.{sum_by, nat_le, nat_lt, if◌then◌else◌}
 use Rattle.std.specs.Option.{option_and_then}
 use Rattle.std.specs.List.{filter_map, flat_map}
@@ -9,7 +9,7 @@ use Rattle.machine_model.specs.Script.{Script, Entry, What, Serial, Tick, Latenc
 use Rattle.machine_model.specs.Board.{Arrival, arrivals_by, arrivals_of, arrivals, present_at, waiting, ticks_by, ticks_at, latency_by, latency_at, latency, last_or}
 use Rattle.rv_devices.specs.declared.schedule.Schedule.{Schedule}
 use Rattle.rv_devices.specs.Entries.{AreDue, AreLater, ticks_of, ticks_before, latency_before, arrivals_at}
-use Rattle.rv_devices.specs.Follows.{Follows, left_of, next_byte}
+use Rattle.rv_devices.specs.Follows.{Follows, next_byte}
 
 -- the test of a step
 is_due : (at step : ℕ) → at < step + 1 → nat_le at step ≡ true

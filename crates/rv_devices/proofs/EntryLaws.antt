@@ -9,7 +9,7 @@ use Rattle.std.proofs.Math.Seq.{drop-append_seam, drop-nil}
 use Rattle.std.proofs.lemmas.Option.{slice_get-get_or}
 use Rattle.list_laws.proofs.PrefixLaws.{take-next}
 use Rattle.machine_model.specs.Script.{Entry}
-use Rattle.machine_model.specs.Board.{RisesFrom, Arrival, arrivals_of, ticks_by, latency_by, last_or}
+use Rattle.machine_model.specs.Board.{RisesFrom, arrivals_of, ticks_by, latency_by, last_or}
 use Rattle.rv_devices.specs.Entries.{AreDue, AreLater, ticks_of, ticks_before, latency_before, arrivals_at}
 
 -- what is due stays due

@@ -1,5 +1,5 @@
 -- What a board shows at a step, and what it keeps.
-use Rattle.std.proofs.Common.{◌≡◌, ℕ, ◌+◌, ◌-◌, ◌*◌, ◌/◌, ◌%◌, ◌^◌, ◌<◌, ◌≤◌, Bool, true, false, List, [], Some, drop, refl, sym, ◌∙◌, ap, subst, arith}
+use Rattle.std.proofs.Common.{◌≡◌, ℕ, zero, suc, ◌+◌, ◌-◌, ◌*◌, ◌/◌, ◌%◌, ◌^◌, ◌<◌, ◌≤◌, Bool, true, false, List, [], Some, drop, refl, sym, ◌∙◌, ap, subst, arith}
 use Rattle.std.specs.Prelude.{◌&&◌, ◌||◌, ◌==◌, nat_le, nat_lt, if◌then◌else◌}
 use Rattle.std.proofs.lemmas.Nat.{div-mul-add}
 use Rattle.memory_map.specs.declared.TheConstants.{SERIAL_DATA}
@@ -17,7 +17,8 @@ use Rattle.rv_devices.specs.declared.transfer.Transfer.{Transfer}
 use Rattle.rv_devices.specs.Entries.{AreLater, ticks_before}
 use Rattle.rv_devices.specs.Follows.{Follows}
 use Rattle.rv_devices.specs.Serves.{Serves, NotBefore, activity_of}
-use Rattle.rv_devices.specs.Stands.{Stands, IsQuiet}
+use Rattle.rv_devices.specs.Stands.{Stands, quiet_ahead}
+use Rattle.rv_devices.specs.Still.{IsStill}
 use Rattle.rv_devices.specs.Times.{Times}
 use Rattle.rv_devices.proofs.DueLaws.{due_ticks, waits_is}
 use Rattle.rv_devices.proofs.EntryLaws.{AreDue-more, AreLater-less}
@@ -60,16 +61,16 @@ no_words_before script step begun words state board s below = ap (λ p. p.0) (st
 pub same_state : (script : Script) (step begun : ℕ) (words : List DmaWord) (state : BoardState) (board : Board) → Stands script begun words state board → step < board.quiet → at_step step state ≡ state
 same_state script step begun words state board s below = ap (λ p. record state { activity = p.1 }) (still script step begun words state board s below)
 
--- a step before which nothing falls due
-pub quiet_step : (script : Script) (step : ℕ) (state : BoardState) (board : Board) → Stands script step [] state board → step < board.quiet → step + 1 ≤ 2 ^ 32 → Stands script (step + 1) [] state (record board { begun = step + 1 })
-quiet_step script step state board s below numbered = record {
+-- steps before which nothing falls due
+pub quiet_to : (script : Script) (begun to : ℕ) (words : List DmaWord) (state : BoardState) (board : Board) → Stands script begun words state board → begun ≤ to → to ≤ board.quiet → to ≤ 2 ^ 32 → Stands script to words state (record board { begun = to })
+quiet_to script begun to words state board s more below numbered = record {
   playable = s.playable;
   begun_is = refl;
   numbered = numbered;
   follows = record {
     entries_are = s.follows.entries_are;
-    due = AreDue-more step (step + 1) board.schedule.place script.entries (omega arith) s.follows.due;
-    later = AreLater-less (step + 1) board.quiet (drop board.schedule.place script.entries) (omega (arith, below)) s.is_quiet.entries_later;
+    due = AreDue-more begun to board.schedule.place script.entries more s.follows.due;
+    later = AreLater-less to board.quiet (drop board.schedule.place script.entries) below s.is_quiet.entries_later;
     latency_is = s.follows.latency_is;
     within = s.follows.within;
     left = s.follows.left;
@@ -80,7 +81,7 @@ quiet_step script step state board s below numbered = record {
     rises = s.times.rises;
     clock_is = s.times.clock_is;
     rise_is = s.times.rise_is;
-    since = omega (arith, s.times.since);
+    since = omega (arith, s.times.since, more);
     until = omega (arith, below, s.is_quiet.timer);
     count_is = s.times.count_is;
   };
@@ -89,6 +90,27 @@ quiet_step script step state board s below numbered = record {
   serves = s.serves;
   is_quiet = record { timer = s.is_quiet.timer; entries_later = s.is_quiet.entries_later; disk = s.is_quiet.disk };
 }
+
+pub passed : (script : Script) (begun count : ℕ) (words : List DmaWord) (state : BoardState) (board : Board) → Stands script begun words state board → count ≤ quiet_ahead board → Stands script (begun + count) words state (record board { begun = board.begun + count })
+passed script begun zero words state board s within =
+    let none : begun ≡ begun + 0 = omega arith in
+    let same : board.begun ≡ board.begun + 0 = omega arith in
+    subst (λ n. Stands script n words state (record board { begun = board.begun + 0 })) none (subst (λ n. Stands script begun words state (record board { begun = n })) same s)
+passed script begun (suc count) words state board s within =
+    subst (λ n. Stands script (begun + suc count) words state (record board { begun = n + suc count })) (sym s.begun_is)
+    (quiet_to script begun (begun + suc count) words state board s (omega arith) (omega (arith, within, s.begun_is)) (omega (arith, within, s.begun_is)))
+
+-- they bring nothing, and keep the lines
+pub is_still : (script : Script) (step k : ℕ) (words : List DmaWord) (state : BoardState) (board : Board) → Stands script (step + 1) words state board → k < quiet_ahead board → IsStill script (board_lines script step state) (step + 1 + k) state
+is_still script step k words state board s below =
+    let at = step + 1 + k in
+    let quiet : at < board.quiet = omega (arith, below, s.begun_is) in
+    let later = quiet_to script (step + 1) (at + 1) words state board s (omega arith) (omega (arith, quiet)) (omega (arith, below, s.begun_is)) in
+    record {
+      none = no_words_before script at (step + 1) words state board s quiet;
+      same = same_state script at (step + 1) words state board s quiet;
+      lines_stay = lines_are script at words state (record board { begun = at + 1 }) later ∙ sym (lines_are script step words state board s);
+    }
 
 -- an earlier step
 pub NotBefore-less : (low high : ℕ) (a : Activity) → low ≤ high → NotBefore high a → NotBefore low a

@@ -5,4 +5,5 @@ pub mod Named
 pub mod Sends
 pub mod Serves
 pub mod Stands
+pub mod Still
 pub mod Times

@@ -1,5 +1,5 @@
 -- What a board stands for.
-use Rattle.std.specs.Prelude.{◌≡◌, ℕ, ◌^◌, ◌≤◌, List, drop}
+use Rattle.std.specs.Prelude.{◌≡◌, ℕ, ◌-◌, ◌^◌, ◌≤◌, min, List, drop}
 use Rattle.run_events.specs.declared.supply.DmaWord.{DmaWord}
 use Rattle.machine_model.specs.Script.{Script, Entry}
 use Rattle.machine_model.specs.Board.{BoardState, IsPlayable}
@@ -16,6 +16,10 @@ steps_begun board = board.begun
 
 abbrev pub words_due : Board → ℕ
 words_due board = unsent board.disk.sending
+
+-- before so many of the steps to come nothing falls due
+abbrev pub quiet_ahead : Board → ℕ
+quiet_ahead board = min board.quiet (2 ^ 32) - board.begun
 
 -- nothing falls due by itself before the step that it keeps
 pub record IsQuiet (entries : List Entry) (board : Board) : Type 0 where

@@ -98,7 +98,8 @@ impl Board {
     ghost use Rattle.machine_model.specs.Board.{BoardState, IsPlayable};
     ghost use Rattle.rv_devices.specs.Effects.{effect_of};
     ghost use Rattle.rv_devices.specs.Named.{named};
-    ghost use Rattle.rv_devices.specs.Stands.{Stands, steps_begun, words_due};
+    ghost use Rattle.rv_devices.specs.Stands.{Stands, quiet_ahead, steps_begun, words_due};
+    ghost use Rattle.rv_devices.specs.Still.{AreStill};
 
     /// The board at reset, before the first step, with a disk file that is padded with zeros to whole sectors. It is the
     /// only call that takes memory.
@@ -155,6 +156,32 @@ impl Board {
         } else {
             self.advance(step);
         }
+    }
+
+    /// Before how many of the steps to come nothing falls due, so that the lines stay as they are where no step accesses
+    /// a device.
+    #[inline]
+    pub fn quiet_for(&self) -> u32
+        requires { 1 ≤ steps_begun self.now }
+        ensures still { (script : Outside) (step : ℕ) (words : List DmaWord) (state : BoardState) → Stands script (step + 1) words state self.now → AreStill script (model.board_lines script step state) (step + 1) result state }
+        ensures ahead { result ≤ quiet_ahead self.now }
+    {
+        let until = self.quiet.min(0x1_0000_0000);
+        if until <= self.begun {
+            return 0;
+        }
+        (until - self.begun) as u32
+    }
+
+    /// Begins so many steps at once, as `begin` does one after the other, before which nothing falls due.
+    #[inline]
+    pub fn pass(&mut self, count: u32)
+        requires { count ≤ quiet_ahead self.old }
+        ensures begun { steps_begun self.new ≡ steps_begun self.old + count }
+        ensures left { words_due self.new ≡ words_due self.old }
+        ensures stands { (script : Outside) (begun : ℕ) (words : List DmaWord) (state : BoardState) → Stands script begun words state self.old → Stands script (begun + count) words state self.new }
+    {
+        self.begun += u64::from(count);
     }
 
     /// Hands out the next word that the disk writes before this step. None is left where it answers None.

@@ -1,28 +1,30 @@
 -- How what is still to come goes from phase to phase.
-use Rattle.std.proofs.Common.{◌≡◌, ℕ, suc, ◌+◌, List, [], ◌∷◌, ◌++◌, map, Option, None, Some, Bool, true, false, refl, sym, ap, subst, ◌∙◌, arith, cond, eq-eqb}
+use Rattle.std.proofs.Common.{◌≡◌, ℕ, suc, List, [], ◌∷◌, ◌++◌, map, Option, None, Some, true, refl, sym, ap, subst, ◌∙◌, arith, cond, eq-eqb}
 use Rattle.std.proofs.lemmas.Bool.Decides.{nat_tests}
-use Rattle.std.specs.Prelude.{◌==◌, IsSome, if◌then◌else◌}
+use Rattle.std.specs.Prelude.{IsSome}
 use Rattle.memory_map.specs.Device.{is_device}
 use Rattle.run_events.specs.declared.event.Event.{Event}
 use Rattle.run_events.specs.declared.item.Item.{Item}
 use Rattle.run_events.specs.declared.record.Record.TheVariants.{Lines as LinesRecord, Load as LoadRecord}
-use Rattle.run_events.specs.declared.record.EndCause.TheVariants.{Limit, Power}
+use Rattle.run_events.specs.declared.record.EndCause.{EndCause}
+use Rattle.run_events.specs.declared.record.EndCause.TheVariants.{Limit}
 use Rattle.run_events.specs.declared.supply.DmaWord.{DmaWord}
-use Rattle.run_events.specs.declared.supply.Need as need
-use Rattle.run_events.specs.declared.supply.Need.TheVariants.{Load, Nothing}
+use Rattle.run_events.specs.declared.supply.Need.TheVariants.{Load}
 use Rattle.run_events.specs.declared.supply.Supplied.{Supplied}
-use Rattle.any_machine.specs.Log.{plain_item, word_record, lines_records, reach_items}
+use Rattle.any_machine.specs.Log.{plain_item, word_record, lines_records, reach_items, items as all_items}
 use Rattle.any_machine.specs.Machine.{power_status}
 use Rattle.any_machine.specs.Recorder.{end_item, at_load, at_step, with_load, at_event, after_step}
 use Rattle.any_machine.proofs.RunSteps.{to_come-limit, to_come-step}
+use Rattle.board_model.specs.Guest.{run, started}
 use Rattle.board_model.specs.TheBoard.{board, after_event}
 use Rattle.hart_model.specs.Machine.{hart}
 use Rattle.hart_model.specs.State.{State}
 use Rattle.hart_model.specs.Step.{cpu, needs, touch}
 use Rattle.machine_model.specs.Board as model
 use Rattle.machine_model.specs.Board.{BoardState}
+use Rattle.machine_model.specs.Image.{Image}
 use Rattle.machine_model.specs.Script.{Script}
-use Rattle.rv_machine.specs.Phase.{Supplies, items_of, phase_after}
+use Rattle.rv_machine.specs.Phase.{Supplies, phase_after}
 use Rattle.rv_machine.specs.ToCome.{coming}
 use Rattle.rv_machine.specs.declared.phase.Phase.{Phase}
 use Rattle.rv_machine.specs.declared.phase.Phase.TheVariants.{Between, Words, Lines, Need, Given, Ending, Over}
@@ -39,6 +41,15 @@ module _ (script : Script) where
   pub coming-limit : (step lines : ℕ) (s : State) (b : BoardState) (words : List DmaWord) → coming script Between 0 step lines s b words ≡ end_item step Limit ∷ []
   unfolding coming
   coming-limit step lines s b words = to_come-limit hart (board script) step lines s b
+
+  -- the guest ended the run, or the end was given
+  pub coming-end : (left step lines : ℕ) (s : State) (b : BoardState) (words : List DmaWord) (cause : EndCause) → coming script (Ending cause) left step lines s b words ≡ end_item step cause ∷ []
+  unfolding coming
+  coming-end left step lines s b words cause = refl
+
+  pub coming-over : (left step lines : ℕ) (s : State) (b : BoardState) (words : List DmaWord) → coming script Over left step lines s b words ≡ []
+  unfolding coming
+  coming-over left step lines s b words = refl
 
   -- a step begins
   pub coming-begin : (left step lines : ℕ) (s : State) (b : BoardState) (words : List DmaWord)
@@ -109,3 +120,8 @@ module _ (script : Script) where
 pub register_there : (address : ℕ) → is_device address ≡ true → IsSome (model.register_at address)
 unfolding is_device
 register_there address is = grind (arith, nat_tests, is)
+
+-- all items of a run, at its start
+pub coming-all : (image : Image) (script : Script) (disk : List ℕ) (ram_kib limit : ℕ) → all_items (run image script disk ram_kib limit) ≡ coming script Between limit 0 0 (started image ram_kib) (model.reset_board (model.padded disk)) []
+unfolding coming run
+coming-all image script disk ram_kib limit = refl

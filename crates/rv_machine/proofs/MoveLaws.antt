@@ -1,9 +1,35 @@
 -- What a turn moves, where part of it was done before.
-use Rattle.std.proofs.Common.{◌≡◌, ◌+◌, ◌≤◌, Option, None, Some, ap, ◌∙◌, arith}
+use Rattle.std.proofs.Common.{◌≡◌, ℕ, false, ◌+◌, ◌/◌, ◌≤◌, List, Option, None, Some, ap, ◌∙◌, arith}
 use Rattle.run_events.specs.declared.item.Item.{Item}
-use Rattle.rv_machine.specs.ToCome.{Moves, to_do}
+use Rattle.rv_machine.specs.Phase.{is_over}
+use Rattle.rv_machine.specs.ToCome.{Found, Moves, ToCome, Turned, to_do}
 use Rattle.rv_machine.specs.declared.machine.Machine.{Machine}
 
 pub moves_from : (given : Option Item) (before mid after : Machine) → mid.cpu.step ≡ before.cpu.step → to_do mid ≤ to_do before → Moves given mid after → Moves given before after
-moves_from None before mid after same less m = record { next = m.next; counted = m.counted ∙ ap (λ n. n + 1) same; between = m.between; less = omega (arith, m.less, less) }
-moves_from (Some item) before mid after same less m = omega (arith, m, less)
+moves_from None before mid after same less m =
+    record { going = m.going; onward = omega (arith, m.onward, same); block = m.block ∙ ap (λ n. n / 256) same; less = omega (arith, m.less, less) }
+moves_from (Some item) before mid after same less m = record { few = omega (arith, m.few, same); less = omega (arith, m.less, less) }
+
+-- so many turns went on from a machine
+pub record GoneOn (turns : ℕ) (before now : Machine) : Type 0 where
+  pub gives : (items : List Item) → ToCome before items → ToCome now items
+  pub going : is_over now.phase ≡ false
+  pub onward : before.cpu.step + turns ≤ now.cpu.step
+  pub block : now.cpu.step / 256 ≡ before.cpu.step / 256
+  pub less : to_do now ≤ to_do before
+
+pub goes_on : (turns : ℕ) (before now after : Machine) → GoneOn turns before now → Turned None now after → GoneOn (turns + 1) before after
+goes_on turns before now after gone turned = record {
+  gives = λ items is. turned.gives items (gone.gives items is);
+  going = turned.moves.going;
+  onward = omega (arith, gone.onward, turned.moves.onward);
+  block = turned.moves.block ∙ gone.block;
+  less = omega (arith, gone.less, turned.moves.less);
+}
+
+pub found : (turns : ℕ) (before now after : Machine) (item : Item) → GoneOn turns before now → Turned (Some item) now after → Found item before after
+found turns before now after item gone turned = record {
+  gives = λ items is. turned.gives items (gone.gives items is);
+  few = omega (arith, gone.block, turned.moves.few);
+  less = omega (arith, gone.less, turned.moves.less);
+}

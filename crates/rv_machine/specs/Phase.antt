@@ -1,7 +1,9 @@
 -- What the phases of a recorder say.
-use Rattle.std.specs.Prelude.{◌≡◌, ℕ, ◌+◌, ◌*◌, Bool, true, false, List, [], ◌∷◌, Option, None, Some}
+use Rattle.std.specs.Prelude.{◌≡◌, ℕ, ◌+◌, ◌*◌, ◌%◌, ◌==◌, if◌then◌else◌, Bool, true, false, List, [], ◌∷◌, Option, None, Some}
+use Rattle.any_machine.specs.Log.{plain_item}
 use Rattle.run_events.specs.declared.item.Item.{Item}
 use Rattle.run_events.specs.declared.record.EndCause.TheVariants.{Power}
+use Rattle.run_events.specs.declared.record.Record.TheVariants.{Reach}
 use Rattle.run_events.specs.declared.supply.Need as need
 use Rattle.run_events.specs.declared.supply.Need.TheVariants.{Nothing}
 use Rattle.run_events.specs.declared.supply.Supplied.{Supplied}
@@ -67,6 +69,10 @@ phase_after (Some status) = Ending (Power status)
 abbrev pub items_of : Option Item → List Item
 items_of None = []
 items_of (Some item) = item ∷ []
+
+-- that so many steps are done is told at the multiples of 256, of steps that send nothing
+abbrev pub mark_items : (done : ℕ) → List Item
+mark_items done = if done % 256 == 0 then plain_item (Reach done) ∷ [] else []
 
 -- what a step is given is what it needs
 abbrev pub Supplies : Phase → Option Supplied → need.Need → Type 0

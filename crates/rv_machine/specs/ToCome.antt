@@ -1,19 +1,18 @@
 -- What is still to come of a machine's run, and what a call gives of it.
-use Rattle.std.specs.Prelude.{◌≡◌, ℕ, ◌+◌, ◌%◌, ◌<◌, ◌≤◌, List, [], ◌∷◌, ◌++◌, length, Option, None, Some}
+use Rattle.std.specs.Prelude.{◌≡◌, ℕ, false, ◌+◌, ◌*◌, ◌/◌, ◌<◌, ◌≤◌, List, [], ◌∷◌, length, Option, None, Some}
 use Rattle.std.specs.List.{AllByRecursion}
 use Rattle.run_events.specs.declared.item.Item.{Item}
 use Rattle.run_events.specs.declared.supply.DmaWord.{DmaWord}
 use Rattle.any_machine.specs.Recorder.{end_item, still_to_come, at_words, at_lines, at_load, at_step}
+use Rattle.any_machine.specs.Recording.{Recording, GivesItem}
 use Rattle.board_model.specs.TheBoard.{board}
 use Rattle.hart_model.specs.Machine.{hart}
 use Rattle.hart_model.specs.State.{State}
-use Rattle.machine_model.specs.Board.{BoardState, IsDiskWord, IsUnderWay}
+use Rattle.machine_model.specs.Board.{BoardState, IsDiskWord, IsUnderWay, board_lines}
 use Rattle.machine_model.specs.Script.{Script}
 use Rattle.rv_devices.specs.Stands.{Stands, words_due}
 use Rattle.rv_devices.specs.declared.board.Board.{Board}
-use Rattle.rv_machine.specs.Phase.{inside, items_left}
-use Rattle.rv_machine.specs.declared.machine.Advance.{Advance}
-use Rattle.rv_machine.specs.declared.machine.Advance.TheVariants as advance
+use Rattle.rv_machine.specs.Phase.{inside, is_over, items_left}
 use Rattle.rv_machine.specs.declared.machine.Machine.{Machine}
 use Rattle.rv_machine.specs.declared.phase.Phase.{Phase}
 use Rattle.rv_machine.specs.declared.phase.Phase.TheVariants.{Between, Words, Lines, Need, Given, Ending, Over}
@@ -38,6 +37,16 @@ MayBeDue (Given supplied) words = words ≡ []
 MayBeDue (Ending cause) words = words ≡ []
 MayBeDue Over words = words ≡ []
 
+-- the lines that are told are those of the board
+abbrev pub HasTold : Phase → (lines shown : ℕ) → Type 0
+HasTold Between lines shown = Unit {0}
+HasTold Words lines shown = Unit {0}
+HasTold Lines lines shown = Unit {0}
+HasTold Need lines shown = shown ≡ lines
+HasTold (Given supplied) lines shown = Unit {0}
+HasTold (Ending cause) lines shown = Unit {0}
+HasTold Over lines shown = Unit {0}
+
 -- A hart and a board in a phase of a step, with so many steps left after the one that has begun, and these lines held:
 -- the board gives RAM what it may take, and these items are still to come.
 pub record Awaits (phase : Phase) (left lines : ℕ) (s : State) (b : Board) (items : List Item) : Type 0 where
@@ -48,52 +57,49 @@ pub record Awaits (phase : Phase) (left lines : ℕ) (s : State) (b : Board) (it
   pub way : IsUnderWay (length s.ram) state.activity
   pub held : AllByRecursion (IsDiskWord (length s.ram)) words
   pub due : MayBeDue phase words
+  pub told : HasTold phase lines (board_lines script s.step state)
   pub are : items ≡ coming script phase left s.step lines s state words
 
 -- these items are still to come of a machine
 abbrev pub ToCome : Machine → List Item → Type 0
 ToCome m items = Awaits m.phase m.left m.lines m.cpu m.board items
 
--- this item is the next one of them, and the others are to come after it
-pub record IsNext (item : Item) (items : List Item) (after : Machine) : Type 0 where
-  pub rest : List Item
-  pub are : items ≡ item ∷ rest
-  pub to_come : ToCome after rest
-
--- a turn gives the next item, or none and all are still to come
-abbrev pub Gives : Option Item → List Item → Machine → Type 0
-Gives None items after = ToCome after items
-Gives (Some item) items after = IsNext item items after
-
--- a call gives the next item, or there is none
-pub record IsOver (items : List Item) (after : Machine) : Type 0 where
-  pub none : items ≡ []
-  pub to_come : ToCome after []
-
-abbrev pub Answers : Advance → List Item → Machine → Type 0
-Answers (advance.Item item byte) items after = IsNext (record { item = item; byte = byte }) items after
-Answers advance.Ended items after = IsOver items after
-
 -- a bound on the number of items to come, which falls with each item
 abbrev pub to_do : Machine → ℕ
 to_do m = items_left m.phase m.left (words_due m.board)
 
-abbrev pub Falls : Advance → Machine → Machine → Type 0
-Falls (advance.Item item byte) before after = to_do after < to_do before
-Falls advance.Ended before after = to_do after ≤ to_do before
+-- what a machine hands out
+abbrev pub recording : Recording Machine
+recording = record { to_come = ToCome; left = to_do }
 
--- one step was done that makes no item
+-- a turn gives the next item, or none and all are still to come
+abbrev pub Gives : Option Item → List Item → Machine → Type 0
+Gives None items after = ToCome after items
+Gives (Some item) items after = GivesItem recording item items after
+
+-- steps were done that make no item, and so none of their numbers plus 1 is a multiple of 256
 pub record GoesOn (before after : Machine) : Type 0 where
-  pub next : after.phase ≡ Between
-  pub counted : after.cpu.step ≡ before.cpu.step + 1
-  pub between : 0 < after.cpu.step % 256
+  pub going : is_over after.phase ≡ false
+  pub onward : before.cpu.step < after.cpu.step
+  pub block : after.cpu.step / 256 ≡ before.cpu.step / 256
   pub less : to_do after ≤ to_do before
+
+-- an item was made, at the latest once the number of steps is a multiple of 256
+pub record Gave (before after : Machine) : Type 0 where
+  pub few : after.cpu.step ≤ before.cpu.step / 256 * 256 + 256
+  pub less : to_do after < to_do before
 
 abbrev pub Moves : Option Item → Machine → Machine → Type 0
 Moves None before after = GoesOn before after
-Moves (Some item) before after = to_do after < to_do before
+Moves (Some item) before after = Gave before after
 
 -- a turn from a machine to the next
 pub record Turned (given : Option Item) (before after : Machine) : Type 0 where
   pub gives : (items : List Item) → ToCome before items → Gives given items after
   pub moves : Moves given before after
+
+-- the next item of a machine, which comes after at most 256 steps
+pub record Found (item : Item) (before after : Machine) : Type 0 where
+  pub gives : (items : List Item) → ToCome before items → GivesItem recording item items after
+  pub few : after.cpu.step ≤ before.cpu.step + 256
+  pub less : to_do after < to_do before

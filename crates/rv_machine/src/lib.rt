@@ -7,4 +7,5 @@ mod phase;
 mod tests;
 mod told;
 
-pub use machine::{Advance, Machine};
+pub use any_machine::Advance;
+pub use machine::Machine;

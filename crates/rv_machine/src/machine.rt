@@ -1,5 +1,5 @@
 //! The recorder.
-ghost use Rattle.std.specs.Prelude.{◌≡◌, ◌+◌, ◌%◌, ◌*◌, ◌^◌, ◌<◌, ◌≤◌, ℕ, false, true, List, IfOk, length, map, vec_len};
+ghost use Rattle.std.specs.Prelude.{◌≡◌, ◌+◌, ◌%◌, ◌*◌, ◌^◌, ◌<◌, ◌≤◌, ℕ, false, true, List, IfOk, IsTrue, length, map, vec_len};
 ghost use Rattle.any_machine.specs.Log.{items};
 ghost use Rattle.any_machine.specs.Machine.{is_load};
 ghost use Rattle.any_machine.specs.Recorder.{end_item};
@@ -7,34 +7,27 @@ ghost use Rattle.board_model.specs.Guest.{run, started};
 ghost use Rattle.board_model.specs.TheBoard.{after_access, after_event};
 ghost use Rattle.hart_model.proofs.DeviceLaws.{AtRegister, IsAtRegister};
 ghost use Rattle.hart_model.specs.Fetch.{grain};
-ghost use Rattle.hart_model.specs.Step.{needs};
+ghost use Rattle.hart_model.specs.Machine.{holds_word};
+ghost use Rattle.hart_model.specs.Step.{needs, touch};
 ghost use Rattle.machine_model.specs.Board.{BoardState, IsPlayable};
 ghost use Rattle.machine_model.specs.Image.{IsLoadable};
 ghost use Rattle.machine_model.specs.Script.{Script as Outside};
-ghost use Rattle.run_events.specs.declared.supply.DmaWord.{DmaWord};
+ghost use Rattle.run_events.specs.declared.supply.DmaWord.{DmaWord as Written};
 ghost use Rattle.rv_devices.specs.Stands.{Stands, steps_begun, words_due};
 ghost use Rattle.rv_machine.specs.Phase.{Supplies, awaits, inside, is_over, sends};
 ghost use Rattle.rv_machine.specs.declared.phase.Phase.TheVariants.{Between, Over, Words, Lines, Need as Asks};
 
 use crate::phase::Phase;
-use crate::told::{after_power, plain, reach_item, word_item};
+use crate::told::{after_power, mark_item, plain, reach_item, word_item};
+use any_machine::{Advance, Recorder};
 use elf_image::Image;
 use in_script::Script;
 use memory_map::NoMemory;
-use run_events::{Access, EndCause, Event, Item, Need, Record, Supplied};
+use run_events::{Access, DmaWord, EndCause, Event, Item, Need, Record, Supplied};
 use rv_cpu::Cpu;
 use rv_devices::Board;
 use rv_memory::Ram;
 use std::alloc::Global;
-
-/// What the next call gave.
-#[derive(Clone, Copy, Debug, PartialEq, Eq)]
-pub enum Advance {
-    /// The next record of the run. `byte` is the output of the step that it says is done.
-    Item { item: Record, byte: Option<u8> },
-    /// The record of the end was given before.
-    Ended,
-}
 
 /// A guest beside its board, that is run on from record to record. Contracts say by `ToCome` which items are still to come.
 #[derive(Drop)]
@@ -50,14 +43,6 @@ pub struct Machine {
     ghost given: { awaits phase (is_load (needs cpu lines)) ≡ true },
     ghost size: { length cpu.ram ≤ 2 ^ 24 },
 }
-
-// An event to be written over.
-const NO_EVENT: Event = Event::Irq {
-    step: 0,
-    pc: 0,
-    cause: 0,
-    next: 0,
-};
 
 // The hart of a guest before its first step, over the RAM that its image fills.
 #[tactic(auto, unfolding(machine_model::specs::Image::ram_at_start))]
@@ -75,7 +60,8 @@ fn start(alloc: Global, image: &Image, ram_kib: u32) -> Result<Cpu, NoMemory>
 }
 
 impl Machine {
-    ghost use Rattle.rv_machine.specs.ToCome.{Answers, Falls, ToCome, Turned};
+    ghost use Rattle.any_machine.specs.Recording.{Advances, Falls};
+    ghost use Rattle.rv_machine.specs.ToCome.{Found, ToCome, Turned, recording};
 
     /// The guest of an image at step 0, beside the board of this script and this disk file, which will be run for at most
     /// `limit` steps. RAM has 64 to 16,384 KiB, the disk file at most 16 MiB. It is the only call that takes memory.
@@ -107,10 +93,12 @@ impl Machine {
         })
     }
 
-    /// Runs on to the next record and no further: at most 256 steps. It takes no memory.
+    /// Runs on to the next record and no further: at most 256 steps. `byte` is the output of the step that a record says is
+    /// done. `Ended` comes exactly after the record of the end, and then at each later call. It takes no memory.
     pub fn advance(&mut self) -> Advance
-        ensures next { (items : List Item) → ToCome self.old items → Answers result items self.new }
-        ensures less { Falls result self.old self.new }
+        ensures next { (items : List Item) → ToCome self.old items → Advances recording items self.new result }
+        ensures falls { Falls recording self.old self.new result }
+        ensures few { self.new.cpu.step ≤ self.old.cpu.step + 256 }
     {
         match self.phase {
             Phase::Over => Advance::Ended,
@@ -127,7 +115,7 @@ impl Machine {
     // Runs on to the next item, which comes at the latest after a step whose number plus 1 is a multiple of 256.
     fn next_item(&mut self) -> Item
         requires { is_over self.old.phase ≡ false }
-        ensures { Turned (Some result) self.old self.new }
+        ensures { Found result self.old self.new }
     {
         'turns: for _turn in 0..256 - self.cpu.steps() % 256 {
             if let Some(item) = self.turn() {
@@ -146,7 +134,7 @@ impl Machine {
             Phase::Between => self.begin(),
             Phase::Words => self.write_words(),
             Phase::Lines => self.tell_lines(),
-            Phase::Need => self.ask_need(),
+            Phase::Need => self.run_on(),
             Phase::Given { supplied } => self.finish(Some(supplied)),
             Phase::Ending { cause } => Some(self.end(cause)),
             Phase::Over => unreachable!(),
@@ -174,10 +162,7 @@ impl Machine {
     {
         match self.board.due() {
             Some(word) => {
-                // the board has no word for another place
-                if self.cpu.holds(word.address) {
-                    let _shown = self.cpu.dma(word.address, word.word, word.mark);
-                }
+                write_word(&mut self.cpu, &word);
                 Some(word_item(self.cpu.steps(), &word))
             }
             None => {
@@ -195,7 +180,7 @@ impl Machine {
         let bits = self.board.lines();
         self.phase = Phase::Need;
         if bits == self.lines {
-            self.ask_need()
+            self.run_on()
         } else {
             self.lines = bits;
             Some(plain(Record::Lines {
@@ -203,6 +188,23 @@ impl Machine {
                 bits,
             }))
         }
+    }
+
+    // Does the step and those after it as long as they are plain ones and nothing else is due; or it is another one.
+    fn run_on(&mut self) -> Option<Item>
+        requires { self.old.phase ≡ Asks }
+        ensures { Turned result self.old self.new }
+    {
+        let step = self.cpu.steps();
+        let more = self.board.quiet_for().min(self.left).min(255 - step % 256);
+        let done = self.cpu.run_plain(self.lines, more + 1);
+        if done == 0 {
+            return self.ask_need();
+        }
+        self.board.pass(done - 1);
+        self.left -= done - 1;
+        self.phase = Phase::Between;
+        mark_item(step + done)
     }
 
     // Does the step, or takes of the board what it has to be given.
@@ -255,12 +257,33 @@ impl Machine {
     }
 }
 
+impl Recorder for Machine {
+    ghost use Rattle.rv_machine.specs.ToCome.{recording};
+
+    ghost recording = { recording };
+
+    fn advance(&mut self) -> Advance {
+        Machine::advance(self)
+    }
+}
+
+// Writes a word of the disk to RAM. The disk has none for another place.
+fn write_word(cpu: &mut Cpu, word: &DmaWord)
+    ensures word { IsTrue (holds_word cpu.old word.now.address) → (touch cpu.old word.now).1 ≡ cpu.new }
+    ensures step { cpu.new.step ≡ cpu.old.step }
+    ensures size { length cpu.new.ram ≡ length cpu.old.ram }
+{
+    if cpu.holds(word.address) {
+        let _shown = cpu.dma(word.address, word.word, word.mark);
+    }
+}
+
 // What a step's access does to the devices.
 fn store_access(board: &mut Board, access: &Access, ram: &Ram)
     requires begun { 1 ≤ steps_begun board.old }
     requires at { AtRegister access.now }
     requires ram { length ram.now ≤ 2 ^ 24 }
-    ensures stands { (script : Outside) (step : ℕ) (words : List DmaWord) (state : BoardState) → Stands script (step + 1) words state board.old → Stands script (step + 1) words (after_access script step ram.now state access.now) board.new }
+    ensures stands { (script : Outside) (step : ℕ) (words : List Written) (state : BoardState) → Stands script (step + 1) words state board.old → Stands script (step + 1) words (after_access script step ram.now state access.now) board.new }
     ensures begun { steps_begun board.new ≡ steps_begun board.old }
     ensures left { words_due board.new ≡ words_due board.old }
 {
@@ -284,7 +307,7 @@ fn store_outside(board: &mut Board, event: &Event, ram: &Ram)
     requires begun { 1 ≤ steps_begun board.old }
     requires at { IsAtRegister event.now }
     requires ram { length ram.now ≤ 2 ^ 24 }
-    ensures stands { (script : Outside) (step : ℕ) (words : List DmaWord) (state : BoardState) → Stands script (step + 1) words state board.old → Stands script (step + 1) words (after_event script step ram.now state event.now) board.new }
+    ensures stands { (script : Outside) (step : ℕ) (words : List Written) (state : BoardState) → Stands script (step + 1) words state board.old → Stands script (step + 1) words (after_event script step ram.now state event.now) board.new }
     ensures begun { steps_begun board.new ≡ steps_begun board.old }
     ensures left { words_due board.new ≡ words_due board.old }
 {

@@ -7,6 +7,9 @@ use run_events::{EndCause, Item, Record};
 use std::alloc::Global;
 use std::process::Abort;
 
+// It sends a letter at step 2.
+const LETTER: [u32; 5] = [0x10000537, 0x04800593, 0x00b50023, 0x10100637, 0x00062023];
+
 // It waits for the timer's interrupt, whose handler ends the run.
 const TIMED: [u32; 18] = [
     0x800002b7, 0x04028293, 0x30529073, 0x08000313, 0x30431073, 0x020043b7, 0x00500313, 0x0003a223,
@@ -24,6 +27,12 @@ const READING: [u32; 13] = [
     0x00032e83, 0x100002b7, 0x01d28023, 0x10100637, 0x00062023,
 ];
 
+// It takes a serial byte through mscratch into a jump.
+const JUMPING: [u32; 11] = [
+    0x100002b7, 0x0002c303, 0x34031073, 0x340023f3, 0xf9f38393, 0x00000e17, 0x01c383b3, 0x01038067,
+    0, 0x10100637, 0x00062023,
+];
+
 fn plain(item: Record) -> Item {
     Item { item, byte: None }
 }
@@ -39,12 +48,8 @@ fn lines(step: u32, bits: u8) -> Item {
     plain(Record::Lines { step, bits })
 }
 
-fn load(step: u32, value: u32) -> Item {
-    plain(Record::Load {
-        step,
-        value,
-        mark: 0,
-    })
+fn load(step: u32, value: u32, mark: u8) -> Item {
+    plain(Record::Load { step, value, mark })
 }
 
 fn power(step: u32) -> Item {
@@ -54,13 +59,32 @@ fn power(step: u32) -> Item {
     })
 }
 
+// What arrives at a guest.
+#[derive(Clone, Copy)]
+enum Arrival {
+    Ticks { count: u32 },
+    Serial { byte: u8, mark: u8 },
+    Latency { steps: u32 },
+}
+
+fn what(alloc: Global, arrival: Arrival) -> Result<What, NoMemory> {
+    Ok(match arrival {
+        Arrival::Ticks { count } => What::Tick { count },
+        Arrival::Serial { byte, mark } => {
+            let bytes = Bytes::new(vec![in alloc; byte]?);
+            What::Serial { bytes, mark }
+        }
+        Arrival::Latency { steps } => What::Latency { steps },
+    })
+}
+
 // The recorder of a guest of these words, at whose step `at` this arrives.
 fn recorder(
     rt: &impl Abort,
     alloc: Global,
     words: &[u32],
     at: u32,
-    what: What,
+    arrival: Arrival,
     disk: Vec<u8>,
 ) -> Result<Machine, NoMemory> {
     assert!(rt; words.len() <= 18 && disk.len() <= 512);
@@ -72,49 +96,72 @@ fn recorder(
     }
     assert!(rt; file.len() <= 1024);
     let image = read_flat(alloc, file)?;
-    let entries = vec![in alloc; Entry { at, what }]?;
+    let what = what(alloc, arrival)?;
     let script = Script {
         clock: 1000,
         sectors: Vec::new(alloc),
-        entries,
+        entries: vec![in alloc; Entry { at, what }]?,
     };
     Machine::new(alloc, &image, script, disk, 64, 1000)
 }
 
 // The next answers are these items.
-fn expect(rt: &impl Abort, machine: &mut Machine, items: &[Item]) {
+fn expect(rt: &impl Abort, machine: &mut Machine, name: &str, items: &[Item]) {
     for expected in items {
         let Item { item, byte } = *expected;
-        assert_eq!(rt; machine.advance(), Advance::Item { item, byte });
+        assert_eq!(rt; machine.advance(), Advance::Item { item, byte }, "{name}");
     }
 }
 
-// A serial byte that is not marked.
-fn letter(alloc: Global) -> Result<What, NoMemory> {
-    let bytes = Bytes::new(vec![in alloc; 0x61]?);
-    Ok(What::Serial { bytes, mark: 0 })
-}
-
 #[test]
-fn a_timer_interrupt_is_told_by_its_line(rt: HostRuntime) -> Result<(), NoMemory> {
+fn guests_are_told_by_their_items(rt: HostRuntime) -> Result<(), NoMemory> {
     let alloc = rt.alloc();
-    let tick = What::Tick { count: 5 };
-    let mut timed = recorder(&rt, alloc, &TIMED, 10, tick, Vec::new(alloc))?;
-    expect(&rt, &mut timed, &[lines(10, 1), power(13)]);
-    assert_eq!(rt; timed.advance(), Advance::Ended);
-    assert_eq!(rt; timed.advance(), Advance::Ended);
-    Ok(())
-}
-
-#[test]
-fn lines_are_told_while_they_are_masked(rt: HostRuntime) -> Result<(), NoMemory> {
-    let alloc = rt.alloc();
-    let what = letter(alloc)?;
-    let mut early = recorder(&rt, alloc, &MASKING, 3, what, Vec::new(alloc))?;
-    expect(&rt, &mut early, &[lines(3, 2), sent(6, 0x40), power(8)]);
-    let what = letter(alloc)?;
-    let mut late = recorder(&rt, alloc, &MASKING, 4, what, Vec::new(alloc))?;
-    expect(&rt, &mut late, &[lines(4, 2), sent(6, 0), power(8)]);
+    let byte = Arrival::Serial {
+        byte: 0x61,
+        mark: 0,
+    };
+    let marked = Arrival::Serial {
+        byte: 0x61,
+        mark: 1,
+    };
+    let tick = Arrival::Ticks { count: 5 };
+    let guests: [(&str, &[u32], u32, Arrival, &[Item]); 5] = [
+        ("a letter", &LETTER, 900, byte, &[sent(3, 0x48), power(5)]),
+        (
+            "a timer's interrupt",
+            &TIMED,
+            10,
+            tick,
+            &[lines(10, 1), power(13)],
+        ),
+        (
+            "a masked line",
+            &MASKING,
+            3,
+            byte,
+            &[lines(3, 2), sent(6, 0x40), power(8)],
+        ),
+        (
+            "a late one",
+            &MASKING,
+            4,
+            byte,
+            &[lines(4, 2), sent(6, 0), power(8)],
+        ),
+        (
+            "a marked jump",
+            &JUMPING,
+            0,
+            marked,
+            &[load(1, 0x61, 1), power(10)],
+        ),
+    ];
+    for (name, words, at, arrival, items) in guests {
+        let mut guest = recorder(&rt, alloc, words, at, arrival, Vec::new(alloc))?;
+        expect(&rt, &mut guest, name, items);
+        assert_eq!(rt; guest.advance(), Advance::Ended, "{name}");
+        assert_eq!(rt; guest.advance(), Advance::Ended, "{name}");
+    }
     Ok(())
 }
 
@@ -122,9 +169,9 @@ fn lines_are_told_while_they_are_masked(rt: HostRuntime) -> Result<(), NoMemory>
 fn the_words_of_a_sector_are_told_before_their_step(rt: HostRuntime) -> Result<(), NoMemory> {
     let alloc = rt.alloc();
     let disk = vec![in alloc; 0x51]?;
-    let latency = What::Latency { steps: 4 };
+    let latency = Arrival::Latency { steps: 4 };
     let mut reading = recorder(&rt, alloc, &READING, 0, latency, disk)?;
-    expect(&rt, &mut reading, &[load(6, 1), load(8, 1)]);
+    expect(&rt, &mut reading, "before", &[load(6, 1, 0), load(8, 1, 0)]);
     for place in 0..128u32 {
         let word = plain(Record::Dma {
             step: 9,
@@ -132,8 +179,13 @@ fn the_words_of_a_sector_are_told_before_their_step(rt: HostRuntime) -> Result<(
             word: if place == 0 { 0x51 } else { 0 },
             mark: 0,
         });
-        expect(&rt, &mut reading, &[word]);
+        expect(&rt, &mut reading, "a word", &[word]);
     }
-    expect(&rt, &mut reading, &[load(10, 2), sent(15, 0x51), power(17)]);
+    expect(
+        &rt,
+        &mut reading,
+        "after",
+        &[load(10, 2, 0), sent(15, 0x51), power(17)],
+    );
     Ok(())
 }

@@ -2,7 +2,7 @@
 ghost use Rattle.std.specs.Prelude.{◌≡◌, ◌+◌, ◌<◌, List};
 ghost use Rattle.any_machine.specs.Log.{plain_item, reach_items, word_record};
 ghost use Rattle.any_machine.specs.Machine.{power_status};
-ghost use Rattle.rv_machine.specs.Phase.{items_of, phase_after};
+ghost use Rattle.rv_machine.specs.Phase.{items_of, mark_items, phase_after};
 
 use crate::phase::Phase;
 use memory_map::{POWER, SERIAL_DATA};
@@ -39,6 +39,17 @@ pub fn reach_item(step: u32, event: &Event) -> Option<Item>
             item: Record::Reach { step: done },
             byte,
         })
+    } else {
+        None
+    }
+}
+
+/// That so many steps are done, where their number is a multiple of 256 and the last one sent nothing.
+pub fn mark_item(done: u32) -> Option<Item>
+    ensures { items_of result ≡ mark_items done }
+{
+    if done % 256 == 0 {
+        Some(plain(Record::Reach { step: done }))
     } else {
         None
     }

@@ -14,7 +14,7 @@ use Rattle.run_events.specs.declared.item.Item.{Item}
 use Rattle.any_machine.specs.Log.{before_step, byte_of}
 use Rattle.gate_core.specs.Core.{CoreState, Append, after_event, reached}
 use Rattle.output_gate.specs.Gate.{GateState, Climbs, behind, is_full, is_withheld, with_issue}
-use Rattle.turn_run.specs.Course.{Course, IsCourse, steps_of, bytes_in, log_of, output_of, plan_of, end_of}
+use Rattle.turn_run.specs.Course.{Course, IsCourse, steps_of, bytes_in, output_of, plan_of, end_of}
 use Rattle.turn_run.specs.Gates.{Gates, issued_by, kept, still_waiting, with_item, with_byte}
 use Rattle.turn_run.proofs.ListLaws.{AllBelow, behind-le, behind-push}
 use Rattle.turn_run.proofs.CourseLaws.{IsNext, issued_IsPrefix, next_item, reach_less}

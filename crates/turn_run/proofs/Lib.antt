@@ -1,11 +1,16 @@
 pub mod AppendLaws
+pub mod ClosingLaws
 pub mod CourseLaws
+pub mod EndLaws
 pub mod IssueLaws
 pub mod LeastLaws
 pub mod ListLaws
+pub mod OpeningLaws
 pub mod PartLaws
+pub mod PeriodLaws
 pub mod ReadLaws
 pub mod ReadTurnLaws
 pub mod ReleaseLaws
+pub mod StopLaws
 pub mod WithholdLaws
 pub mod TurnLaws

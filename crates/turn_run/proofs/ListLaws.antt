@@ -1,10 +1,11 @@
 -- Lists that rise, and parts of them.
-use Rattle.std.proofs.Common.{◌≡◌, ℕ, ◌+◌, ◌<◌, ◌≤◌, Bool, true, false, cond, List, [], ◌∷◌, ◌++◌, length, take, drop, map, refl, sym, ap, subst, ◌∙◌, arith, lt-ltb, take-append-drop}
+use Rattle.std.proofs.Common.{◌≡◌, ℕ, ◌+◌, ◌<◌, ◌≤◌, Bool, true, false, cond, List, [], ◌∷◌, ◌++◌, length, take, drop, refl, sym, ap, subst, ◌∙◌, arith, lt-ltb, take-append-drop}
 use Rattle.std.specs.Prelude.{nat_lt, min, filter}
 use Rattle.std.specs.List.{All}
 use Rattle.std.proofs.Math.Seq.{take-length}
 use Rattle.std.proofs.lemmas.List.{length-map, nil_from_length, drop_at, length-take-le, length-append}
-use Rattle.std.proofs.lemmas.List.Elements.{All-tail, All-head, All-weaker, filter_passes, filter-append}
+use Rattle.std.proofs.lemmas.List.Elements.{recursion_from_All, All-tail, All-head, All-weaker, filter-append}
+use Rattle.list_laws.proofs.AllLaws.{filter-kept}
 use Rattle.list_laws.specs.Prefix.{IsPrefix}
 use Rattle.list_laws.proofs.PrefixLaws.{IsPrefix-take}
 use Rattle.any_machine.specs.Log.{before_step}
@@ -66,12 +67,7 @@ split_IsPrefix bound sent split = record { rest = split.rest; joined = split.joi
 
 -- a test that all pass keeps all
 pub filter-all : {X : Type 0} (p : X → Bool) (xs : List X) → All (λ x. p x ≡ true) xs → filter p xs ≡ xs
-filter-all p [] all = refl
-filter-all p (x ∷ xs) all = rw (All-head (λ x. p x ≡ true) x xs all) (ap (λ l. x ∷ l) (filter-all p xs (All-tail (λ x. p x ≡ true) x xs all)))
-
--- what is below a bound, taken again
-pub before-again : (bound : ℕ) (sent : List (ℕ × ℕ)) → before_step bound (before_step bound sent) ≡ before_step bound sent
-before-again bound sent = filter-all (λ byte. nat_lt byte.0 bound) (before_step bound sent) (filter_passes (λ (byte : ℕ × ℕ). nat_lt byte.0 bound) sent)
+filter-all p xs all = filter-kept p xs (recursion_from_All (λ x. p x ≡ true) xs all)
 
 -- the bytes of output that are all below a bound
 abbrev pub AllBelow : ℕ → List (ℕ × ℕ) → Type 0

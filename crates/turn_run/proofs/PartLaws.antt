@@ -1,6 +1,6 @@
 -- What single parts of a run say: verdicts that are posted, and readers one after another.
-use Rattle.std.proofs.Common.{◌≡◌, ℕ, zero, suc, ◌+◌, ◌<◌, ◌≤◌, Bool, true, false, cond, List, [], ◌∷◌, ◌++◌, length, get_or, take, refl, sym, ap, ◌∙◌, arith, append-nil}
-use Rattle.std.specs.Prelude.{min, map, slice_index}
+use Rattle.std.proofs.Common.{◌≡◌, ℕ, zero, suc, ◌+◌, ◌<◌, Bool, true, false, cond, List, [], ◌∷◌, ◌++◌, length, get_or, take, refl, sym, ap, ◌∙◌, append-nil}
+use Rattle.std.specs.Prelude.{min, slice_index}
 use Rattle.std.proofs.lemmas.List.{take_more}
 use Rattle.gate_core.specs.declared.verdict.Verdict.{Verdict}
 use Rattle.gate_core.specs.Hub.{HubState, approved_at, no_verdict, verdict_at}

@@ -1,5 +1,5 @@
 -- A turn of a follower, where the core stands.
-use Rattle.std.proofs.Common.{◌≡◌, ◌≢◌, ◌⊎◌, inl, inr, ℕ, ◌+◌, ◌-◌, ◌<◌, ◌≤◌, Bool, true, false, cond, List, [], ◌∷◌, ◌++◌, length, take, Some, refl, sym, ap, subst, ◌∙◌, arith, lt-ltb}
+use Rattle.std.proofs.Common.{◌≡◌, ◌≢◌, ℕ, ◌+◌, ◌-◌, ◌<◌, Bool, true, false, cond, List, [], ◌∷◌, ◌++◌, length, take, Some, refl, sym, ap, subst, ◌∙◌, arith, lt-ltb}
 use Rattle.std.specs.Prelude.{min, get_or, nat_eq, slice_get, slice_index, slice_set}
 use Rattle.std.specs.List.{sum_by}
 use Rattle.std.proofs.lemmas.Bool.{eqb-true, eqb-false}
@@ -8,7 +8,6 @@ use Rattle.std.proofs.lemmas.List.Sums.{sum_by-set}
 use Rattle.std.proofs.lemmas.Option.{slice_get_within}
 use Rattle.circular_buffer.proofs.Places.{slice_get-set_same, slice_get-set_other}
 use Rattle.list_laws.proofs.PrefixLaws.{take-next}
-use Rattle.run_events.specs.declared.record.Record.{Record}
 use Rattle.gate_core.specs.declared.take.Take.TheVariants.{Got}
 use Rattle.gate_core.specs.declared.verdict.Verdict.{Verdict}
 use Rattle.gate_core.specs.Core.{CoreState, TakeNext, Post, after_event, reached, IsSound}
@@ -16,8 +15,8 @@ use Rattle.gate_core.specs.Hub.{HubState, Gives, no_verdict, verdict_at, with_ta
 use Rattle.gate_core.specs.Follow.{Does, approvals, hub_of}
 use Rattle.gate_core.proofs.CoreLaws.{event_IsSound}
 use Rattle.gate_core.proofs.FollowLaws.{takes, posts}
-use Rattle.turn_run.specs.Following.{Following, SaysSame}
-use Rattle.turn_run.specs.Course.{Course, IsCourse, Agrees, log_of, plan_of}
+use Rattle.turn_run.specs.Following.{Following}
+use Rattle.turn_run.specs.Course.{Course, Agrees, log_of, plan_of}
 use Rattle.turn_run.specs.Replicas.{Follows, HasTaken, IsFollower, Reads, after_turn}
 use Rattle.turn_run.specs.Runs.{unread}
 use Rattle.turn_run.proofs.CourseLaws.{is_plan, length_log}

@@ -1,6 +1,6 @@
 -- The gate of a run, when it releases and withholds.
-use Rattle.std.proofs.Common.{◌≡◌, ◌⊎◌, inl, inr, ℕ, zero, suc, ◌+◌, ◌-◌, ◌<◌, ◌≤◌, true, false, List, [], length, take, drop, Option, Some, None, refl, sym, ap, subst, ◌∙◌, arith, lt-ltb, ltb-true}
-use Rattle.std.specs.Prelude.{nat_lt, min, slice_index, get_or, filter}
+use Rattle.std.proofs.Common.{◌≡◌, inl, inr, ℕ, zero, suc, ◌+◌, ◌-◌, ◌<◌, ◌≤◌, true, false, List, [], length, take, drop, Option, Some, None, refl, sym, ap, subst, ◌∙◌, arith, lt-ltb, ltb-true}
+use Rattle.std.specs.Prelude.{nat_lt, slice_index, get_or, filter}
 use Rattle.std.specs.List.{All}
 use Rattle.std.proofs.Math.Seq.{drop-append_seam}
 use Rattle.std.proofs.lemmas.List.{length-map, drop-map, drop-drop, drop-take, length-drop, take_all, take-take, length-take, take-map, get_or-map, get_or-drop, drop_all, length-take-le, get_or-take}
@@ -10,7 +10,7 @@ use Rattle.std.proofs.lemmas.List.Elements.{All-weaker, All-filter, All-drop, Al
 use Rattle.list_laws.specs.Prefix.{IsPrefix}
 use Rattle.list_laws.proofs.PrefixLaws.{IsPrefix-trans, IsPrefix-map, IsPrefix-take, IsPrefix-length}
 use Rattle.any_machine.specs.Log.{before_step}
-use Rattle.gate_core.specs.Core.{CoreState, Release, reached, IsSound, IsReleasable, IsRequired}
+use Rattle.gate_core.specs.Core.{CoreState, Release, reached, IsSound, IsReleasable}
 use Rattle.gate_core.proofs.CoreLaws.{event_IsSound}
 use Rattle.output_gate.specs.Gate.{GateState, Climbs, behind, count_below, least_from, with_release, with_withheld}
 use Rattle.output_gate.proofs.GateLaws.{Climbs-take, Climbs-drop, filter-climbs, count_below-within, count_below-before}
@@ -31,7 +31,7 @@ before-take bound low high sent climbs =
     ∙ take_all (length (before_step bound sent)) (before_step bound sent) (omega arith)
 
 -- the output between two places, in other words
-between_is : (c : Course) (from count : ℕ) → bytes_between c from (from + count) ≡ take count (bytes_in (drop from (output_of c)))
+pub between_is : (c : Course) (from count : ℕ) → bytes_between c from (from + count) ≡ take count (bytes_in (drop from (output_of c)))
 between_is c from count = ap bytes_in (drop-take from count (output_of c)) ∙ sym (take-map (λ (byte : ℕ × ℕ). byte.1) count (drop from (output_of c)))
 
 -- some first ones of the output between two places

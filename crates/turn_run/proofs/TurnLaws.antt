@@ -1,26 +1,23 @@
 -- A turn of the gate, where the core stands.
-use Rattle.std.proofs.Common.{◌≡◌, ◌⊎◌, inl, inr, ℕ, zero, suc, ◌+◌, ◌-◌, ◌<◌, ◌≤◌, true, false, Bool, List, [], length, take, drop, refl, sym, ap, subst, ◌∙◌, arith}
-use Rattle.std.specs.Prelude.{min, slice_index}
+use Rattle.std.proofs.Common.{◌≡◌, ◌⊎◌, inl, inr, ℕ, ◌+◌, ◌<◌, ◌≤◌, true, false, Bool, List, [], length, take, drop, refl, sym, ap, subst, ◌∙◌, arith}
+use Rattle.std.specs.Prelude.{slice_index}
 use Rattle.std.specs.List.{All}
 use Rattle.std.proofs.lemmas.Bool.{cases_lt}
 use Rattle.std.proofs.lemmas.List.{length-drop, nil_from_length}
 use Rattle.std.proofs.lemmas.Option.{slice_get_cases}
 use Rattle.std.proofs.lemmas.List.Elements.{All-from_get_or, All-get_or}
-use Rattle.after_edge.specs.Fault.{Rose}
 use Rattle.after_edge.specs.Sink.{Telling, Adds, Writes, WritesPart}
 use Rattle.after_edge.proofs.SinkLaws.{Writes-same, WritesPart-same}
-use Rattle.run_events.specs.Record.{IsRecord, number, reach}
-use Rattle.gate_core.specs.declared.verdict.Verdict.{Verdict}
-use Rattle.gate_core.specs.Core.{CoreState, Break, May, after_event, reached, IsSound}
+use Rattle.gate_core.specs.Core.{CoreState, Break, May, IsSound}
 use Rattle.gate_core.specs.Hub.{HubState, approved_at, verdict_at}
-use Rattle.gate_core.specs.Follow.{approvals, hub_of}
+use Rattle.gate_core.specs.Follow.{approvals}
 use Rattle.gate_core.proofs.CoreLaws.{event_IsSound}
 use Rattle.output_gate.specs.Gate.{GateState, count_below, with_failure, with_release}
 use Rattle.output_gate.proofs.GateLaws.{count_below-within}
 use Rattle.turn_run.specs.declared.parts.Parts.{Parts}
 use Rattle.any_machine.specs.Recording.{Recording}
 use Rattle.turn_run.specs.Following.{Following}
-use Rattle.turn_run.specs.Course.{Course, IsCourse, Agrees, log_of, plan_of}
+use Rattle.turn_run.specs.Course.{Course, IsCourse, Agrees, plan_of}
 use Rattle.turn_run.specs.Gates.{Gates, IsLimit, least_approved, refusals, withheld_from}
 use Rattle.turn_run.specs.Replicas.{Follows}
 use Rattle.turn_run.specs.Runs.{AllTaken, HasBroken, HasReleased, IsAt, bytes_between, with_released}
@@ -41,7 +38,7 @@ module _ {M F : Type 0} (r : Recording M) (f : Following F) (c : Course) (core :
   is = at.follows.course
 
   -- what is posted for a reader is what its follower says of the records that it has taken
-  verdict_agrees : (reader : ℕ) → reader < length c.limits → Agrees c reader (slice_index core.taken reader) (verdict_at parts.hub reader)
+  pub verdict_agrees : (reader : ℕ) → reader < length c.limits → Agrees c reader (slice_index core.taken reader) (verdict_at parts.hub reader)
   verdict_agrees reader there = elim (slice_get_cases parts.followers.items reader).1 [
     | inl (follower, less, here, same) ↦ (
         let fs = at.follows in
@@ -53,7 +50,7 @@ module _ {M F : Type 0} (r : Recording M) (f : Following F) (c : Course) (core :
   required_there : (place : ℕ) → place < length c.required → slice_index c.required place < length c.limits
   required_there place less = All-get_or (λ reader. reader < length c.limits) c.required place 0 less is.required
 
-  posted_is : (reader : ℕ) → approved_at parts.hub reader ≡ slice_index core.approved reader
+  pub posted_is : (reader : ℕ) → approved_at parts.hub reader ≡ slice_index core.approved reader
   posted_is reader = approved_is parts.hub reader ∙ ap (λ l. slice_index l reader) at.follows.approved
 
   -- what a required reader refuses is its limit

@@ -1,5 +1,5 @@
 -- What stands beside a reader of the log.
-use Rattle.std.specs.Prelude.{◌≡◌, ℕ, ◌≤◌, false, List, [], ◌∷◌, ◌++◌}
+use Rattle.std.specs.Prelude.{◌≡◌, false, List}
 use Rattle.run_events.specs.declared.record.Record.{Record}
 use Rattle.gate_core.specs.declared.verdict.Verdict.{Verdict}
 

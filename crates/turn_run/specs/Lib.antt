@@ -1,7 +1,10 @@
+pub mod Closings
 pub mod Course
 pub mod Endings
 pub mod Following
 pub mod Gates
+pub mod Openings
+pub mod Periods
 pub mod Replicas
 pub mod Runs
 pub mod Sources

@@ -1,5 +1,5 @@
 -- A follower beside the hub, whatever it has taken; and the followers of a run, where the core stands.
-use Rattle.std.specs.Prelude.{◌≡◌, ℕ, ◌+◌, ◌<◌, ◌≤◌, true, false, List, [], ◌∷◌, ◌++◌, length, take, slice_index, slice_get, Some}
+use Rattle.std.specs.Prelude.{◌≡◌, ℕ, ◌<◌, ◌≤◌, true, false, List, [], ◌∷◌, ◌++◌, length, take, slice_index, slice_get, Some}
 use Rattle.run_events.specs.declared.record.Record.{Record}
 use Rattle.gate_core.specs.declared.take.Take.TheVariants.{Got}
 use Rattle.gate_core.specs.Core.{CoreState, TakeNext, Post, after_event, IsSound}

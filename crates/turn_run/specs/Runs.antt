@@ -1,8 +1,8 @@
 -- A run under way, where the core stands, and what each turn makes of it.
-use Rattle.std.specs.Prelude.{◌≡◌, ◌⊎◌, ℕ, ◌+◌, ◌-◌, ◌*◌, ◌≤◌, ◌<◌, ◌==◌, Bool, true, false, if◌then◌else◌, List, [], ◌∷◌, ◌++◌, length, take, drop, is_some, sum_by, slice_index}
+use Rattle.std.specs.Prelude.{◌≡◌, ◌⊎◌, ℕ, ◌+◌, ◌-◌, ◌*◌, ◌≤◌, ◌<◌, Bool, true, false, if◌then◌else◌, List, [], ◌∷◌, length, take, drop, is_some, sum_by, slice_index}
 use Rattle.after_edge.specs.Fault.{Rose}
-use Rattle.after_edge.specs.Sink.{Telling, Adds, Writes, WritesPart}
-use Rattle.gate_core.specs.Core.{CoreState, Append, Close, Break, May, after_event, opening}
+use Rattle.after_edge.specs.Sink.{Telling, Adds, Writes}
+use Rattle.gate_core.specs.Core.{CoreState, Append, Close, Break, IsSound, May, after_event}
 use Rattle.gate_core.specs.Hub.{HubState}
 use Rattle.output_gate.specs.Gate.{GateState, count_below, with_release}
 use Rattle.run_events.specs.declared.item.Item.{Item}
@@ -14,9 +14,9 @@ use Rattle.turn_run.specs.declared.reading.Turn.TheVariants as turn
 use Rattle.any_machine.specs.Recording.{Recording}
 use Rattle.turn_run.specs.Following.{Following}
 use Rattle.turn_run.specs.Sources.{StillToCome, items_left}
-use Rattle.turn_run.specs.Course.{Course, log_of, output_of, bytes_in, plan_of, released_bytes}
+use Rattle.turn_run.specs.Course.{Course, log_of, output_of, bytes_in, plan_of}
 use Rattle.turn_run.specs.Replicas.{Follows, after_turn}
-use Rattle.turn_run.specs.Gates.{Gates, issued_by, least_approved, refusals, released_by, withheld_from}
+use Rattle.turn_run.specs.Gates.{Gates, issued_by, least_approved, refusals, withheld_from}
 use Rattle.turn_run.specs.Endings.{end_in}
 
 -- so many bytes are released
@@ -30,6 +30,10 @@ bytes_between c from to = bytes_in (drop from (take to (output_of c)))
 -- how many records each reader has still to take, together
 abbrev pub unread : HubState → ℕ
 unread hub = sum_by (λ count. hub.appended - count) hub.taken
+
+-- each reader has taken all of the log
+abbrev pub AllRead : HubState → Type 0
+AllRead hub = (reader : ℕ) → reader < length hub.taken → slice_index hub.taken reader ≡ hub.appended
 
 -- the next of these items carries a byte
 abbrev pub next_has_byte : List Item → Bool
@@ -72,6 +76,16 @@ module _ {M F : Type 0} (f : Following F) where
   Reads c core reader turn.Empty before after = (core.closed ≡ false) × (slice_index core.taken reader ≡ core.appended)
   Reads c core reader turn.Closed before after = (core.closed ≡ true) × (slice_index core.taken reader ≡ core.appended)
 
+-- A put of bytes that might be released has failed, where so many records were appended; so many bytes had gone out then.
+pub record HasFailed (c : Course) (count put : ℕ) : Type 0 where
+  pub before : CoreState
+  pub sound : IsSound (plan_of c) before
+  pub piece : ℕ
+  pub done : ℕ
+  pub may : May (plan_of c) before (Break piece done)
+  pub appended : before.appended ≡ count
+  pub out : before.released + done ≡ put
+
 module _ {M F : Type 0} (r : Recording M) (f : Following F) where
   -- No put has failed: the followers stand where the core does, the recorder has the items after those that were
   -- appended, and the gate their bytes.
@@ -82,10 +96,6 @@ module _ {M F : Type 0} (r : Recording M) (f : Following F) where
     pub required : parts.required.items ≡ c.required
     pub end : parts.end ≡ end_in (take core.appended (log_of c))
     pub sound : core.failed ≡ false
-
-  -- before the first turn
-  abbrev pub IsOpened : Course → Parts M F → Type 0
-  IsOpened c parts = IsAt c (opening (plan_of c)) parts
 
   -- some course and some state of the core are those of the run
   pub record IsSoundRun (parts : Parts M F) : Type 0 where
@@ -194,41 +204,7 @@ module _ {M F : Type 0} (r : Recording M) (f : Following F) where
   pub record HasCrashed {S : Type 0} (c : Course) (from : ℕ) (after : Parts M F) (sink : Telling S) (old new : S) : Type 0 where
     pub next : CoreState
     pub broken : IsBroken c next after
+    pub failed : HasFailed c next.appended next.released
     pub more : from ≤ next.released
     pub put : Adds sink.holds old new (bytes_between c from next.released)
-    pub rose : Rose (sink.faults old) (sink.faults new)
-
-  -- the log is closed, and each follower has taken all of it
-  abbrev pub IsReadOut : Parts M F → Type 0
-  IsReadOut parts = (parts.hub.closed ≡ true) × ((reader : ℕ) → reader < length parts.hub.taken → slice_index parts.hub.taken reader ≡ parts.hub.appended)
-
-  -- THE END
-
-  -- A run that went to its end: all records were appended and taken, and all bytes that are let out were released.
-  pub record IsEnded (c : Course) (parts : Parts M F) : Type 0 where
-    pub core : CoreState
-    pub at : IsAt c core parts
-    pub closed : core.closed ≡ true
-    pub appended : core.appended ≡ length c.items
-    pub taken : AllTaken c core
-    pub released : core.released ≡ length (released_bytes c)
-    pub none : parts.gate.steps ≡ []
-
-  -- a run that a failed put has ended: the log was closed, and all of it was taken
-  pub record IsStopped (c : Course) (parts : Parts M F) : Type 0 where
-    pub core : CoreState
-    pub broken : IsBroken c core parts
-    pub closed : core.closed ≡ true
-    pub taken : AllTaken c core
-
-  -- and what was put by then: all that is let out
-  pub record HasEnded {S : Type 0} (c : Course) (parts : Parts M F) (sink : Telling S) (old new : S) : Type 0 where
-    pub ended : IsEnded c parts
-    pub put : Writes sink old new (released_bytes c)
-
-  -- or the first bytes of what is let out of the records in the log: as many as the core has released
-  pub record HasStopped {S : Type 0} (c : Course) (parts : Parts M F) (sink : Telling S) (old new : S) : Type 0 where
-    pub stopped : IsStopped c parts
-    pub put : Adds sink.holds old new (take stopped.core.released (released_by c stopped.core.appended))
-    pub within : stopped.core.released ≤ length (released_by c stopped.core.appended)
     pub rose : Rose (sink.faults old) (sink.faults new)

@@ -1,13 +1,14 @@
 //! The parts of a run, and a turn of each of them.
-ghost use Rattle.std.specs.Prelude.{◌≡◌, ◌-◌, ◌<◌, ◌≤◌, ◌&&◌, false, length, is_some, slice_index, IfSome, OnOk, OnErr};
+ghost use Rattle.std.specs.Prelude.{◌≡◌, ◌-◌, ◌<◌, ◌≤◌, ◌&&◌, IsTrue, false, length, is_some, slice_index, vec_len, IfOk, IfSome, OnOk, OnErr};
 ghost use Rattle.std.specs.List.{All};
 ghost use Rattle.run_events.specs.Record.{number};
 ghost use Rattle.gate_core.specs.Core.{CoreState};
 ghost use Rattle.gate_core.specs.Follow.{approvals};
-ghost use Rattle.gate_core.specs.Hub.{approved_at};
+ghost use Rattle.gate_core.specs.Hub.{approved_at, is_cap};
 ghost use Rattle.output_gate.specs.Gate.{is_full};
 ghost use Rattle.turn_run.specs.Course.{Course, IsMarked};
 ghost use Rattle.turn_run.specs.Gates.{least_approved, refusals, with_item, withheld_from};
+ghost use Rattle.turn_run.specs.Openings.{IsCourseOf, IsOpened};
 ghost use Rattle.turn_run.specs.Runs.{HasBroken, HasReleased, IsAt, IsBesides, IsFollowed, IsFollowedRun, IsSoundRun, Lessens, LessensRead, Reads, Records};
 
 use crate::ending::Ending;
@@ -16,8 +17,10 @@ use crate::{Follower, Turn, read_next};
 use after_edge::Sink;
 use any_machine::Recorder;
 use gate_core::Hub;
+use memory_map::NoMemory;
 use output_gate::{OutputGate, ROOM, SinkFault};
 use run_events::{Item, Record};
+use std::alloc::Global;
 
 /// What a turn of the recorder came to.
 #[derive(Clone, Copy, Debug, PartialEq, Eq)]
@@ -45,6 +48,35 @@ pub struct Parts<M: Recorder, F: Follower> {
 }
 
 impl<M: Recorder, F: Follower> Parts<M, F> {
+    /// A run before its first turn, of followers each of which is the reader of its place, those of them that have to
+    /// approve, and a log that holds the last `cap` records. It reserves the places of log and gate, and no later call
+    /// takes memory.
+    pub fn new(
+        alloc: Global,
+        recorder: M,
+        followers: Vec<F>,
+        required: Vec<u32>,
+        cap: u32,
+    ) -> Result<Parts<M, F>, NoMemory>
+        requires cap { IsTrue (is_cap cap) }
+        requires some { 1 ≤ vec_len followers }
+        requires few { vec_len followers ≤ 8 }
+        requires there { All (λ reader. reader < vec_len followers) required.items }
+        ensures { IfOk result (λ parts. (c : Course)
+            → IsCourseOf M.recording F.following c recorder followers.items required.items cap
+            → IsOpened M.recording F.following c parts) }
+    {
+        let readers = followers.len() as u32;
+        Ok(Parts {
+            source: Source::new(recorder),
+            hub: Hub::new(alloc, cap, readers)?,
+            followers,
+            required,
+            gate: OutputGate::new(alloc)?,
+            end: None,
+        })
+    }
+
     // A turn of the recorder: its next record is appended where the log has room, and the gate for its byte; else it
     // waits. After the last record the log is closed.
     pub(crate) fn append_next(&mut self) -> Recorded

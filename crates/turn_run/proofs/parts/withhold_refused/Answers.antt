@@ -1,10 +1,10 @@
-use Rattle.std.proofs.Common.{◌≡◌, ◌≤◌, length, take, sym, ap, subst, ◌∙◌, arith, true, false}
+use Rattle.std.proofs.Common.{◌≡◌, ◌≤◌, take, sym, ap, ◌∙◌, arith, true, false}
 use Rattle.std.specs.Prelude.{slice_index}
 use Rattle.std.proofs.lemmas.List.Elements.{All-get_or}
 use Rattle.gate_core.specs.declared.verdict.Verdict.{Verdict}
 use Rattle.gate_core.specs.Hub.{approved_at, verdict_at}
 use Rattle.output_gate.specs.Gate.{GateState, with_withheld}
-use Rattle.turn_run.specs.Gates.{refusals, withheld_from}
+use Rattle.turn_run.specs.Gates.{refusals}
 use Rattle.turn_run.proofs.WithholdLaws.{withheld-failed, withheld-passed}
 use Rattle.turn_run.proofs.PartLaws.{withheld-refused, withheld-passed_on}
 use Rattle.turn_run.proofs.parts.withhold_refused.Goals as goal

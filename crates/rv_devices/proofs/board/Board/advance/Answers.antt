@@ -1,4 +1,4 @@
-use Rattle.std.proofs.Common.{◌≡◌, ◌+◌, ◌%◌, ◌^◌, ◌≤◌, drop, arith, ◌∙◌, ap, sym, subst, min}
+use Rattle.std.proofs.Common.{◌≡◌, ◌+◌, ◌%◌, ◌^◌, drop, arith, ◌∙◌, ap, sym, subst}
 use Rattle.machine_model.specs.Board.{RisesFrom}
 use Rattle.rv_devices.specs.Entries.{AreLater, ticks_before}
 use Rattle.rv_devices.specs.Follows.{Follows}

@@ -1,4 +1,3 @@
-use Rattle.std.proofs.Common.{sym}
 use Rattle.rv_devices.proofs.StandLaws.{lines_are}
 use Rattle.rv_devices.proofs.board.Board.lines.Goals as goal
 

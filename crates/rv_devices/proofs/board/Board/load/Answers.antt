@@ -1,8 +1,7 @@
-use Rattle.std.proofs.Common.{◌≡◌, ◌≢◌, Some, ◌+◌, ◌∙◌, ap, sym, subst}
+use Rattle.std.proofs.Common.{◌≢◌, Some, ◌+◌, ◌∙◌, ap, sym}
 use Rattle.std.specs.Option.{option_map_or}
 use Rattle.machine_model.specs.Board as model
 use Rattle.rv_devices.specs.Named.{named}
-use Rattle.rv_devices.specs.Stands.{Stands}
 use Rattle.rv_devices.proofs.DueLaws.{waiting_is}
 use Rattle.rv_devices.proofs.StandLaws.{loaded, not_data}
 use Rattle.rv_devices.proofs.board.Board.load.Goals as goal

@@ -1,7 +1,6 @@
-use Rattle.std.proofs.Common.{◌≡◌, ◌∙◌, ap, sym, subst, refl, arith, [], drop}
+use Rattle.std.proofs.Common.{◌≡◌, ap, subst, refl, arith, [], drop}
 use Rattle.machine_model.specs.Script.{Script}
 use Rattle.machine_model.specs.Board as model
-use Rattle.rv_devices.specs.Entries.{ticks_before}
 use Rattle.rv_devices.specs.Follows.{Follows}
 use Rattle.rv_devices.specs.Serves.{Serves}
 use Rattle.rv_devices.specs.Times.{Times}

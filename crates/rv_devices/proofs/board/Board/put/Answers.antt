@@ -1,4 +1,4 @@
-use Rattle.std.proofs.Common.{◌≡◌, ◌+◌, ◌<◌, ◌^◌, ◌∙◌, ap, sym, subst, arith}
+use Rattle.std.proofs.Common.{◌≡◌, ◌+◌, ◌∙◌, ap, sym, subst, arith}
 use Rattle.machine_model.specs.Board as model
 use Rattle.rv_devices.specs.Stands.{Stands}
 use Rattle.rv_devices.proofs.StandLaws.{mtime_is, time_set}

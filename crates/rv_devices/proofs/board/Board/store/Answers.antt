@@ -1,4 +1,4 @@
-use Rattle.std.proofs.Common.{◌≡◌, ◌+◌, ◌∙◌, ap, sym, subst}
+use Rattle.std.proofs.Common.{◌+◌, subst}
 use Rattle.std.specs.Option.{option_map_or}
 use Rattle.machine_model.specs.Board as model
 use Rattle.rv_devices.specs.Stands.{Stands}

@@ -1,6 +1,5 @@
-use Rattle.std.proofs.Common.{◌≡◌, ◌∙◌, ap, sym, subst}
+use Rattle.std.proofs.Common.{◌∙◌, ap, sym}
 use Rattle.machine_model.specs.Board as model
-use Rattle.rv_devices.specs.Named.{named}
 use Rattle.rv_devices.proofs.DueLaws.{waits_is}
 use Rattle.rv_devices.proofs.StandLaws.{mtime_is}
 use Rattle.rv_devices.proofs.board.Board.value_of.Goals as goal

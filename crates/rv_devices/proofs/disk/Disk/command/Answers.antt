@@ -1,10 +1,9 @@
-use Rattle.std.proofs.Common.{◌≡◌, ◌+◌, ◌-◌, ◌*◌, ◌<◌, ◌≤◌, take, drop, length-take, true, false, List, [], ℕ, length, arith, rules, ◌∙◌, ap, sym, refl}
+use Rattle.std.proofs.Common.{◌≡◌, ◌+◌, ◌-◌, ◌*◌, ◌≤◌, take, drop, length-take, true, false, List, [], ℕ, length, arith, rules, ◌∙◌, ap, sym}
 use Rattle.std.specs.Prelude.{◌==◌}
 use Rattle.machine_model.specs.Board as model
 use Rattle.memory_map.specs.declared.TheConstants.{RAM_START}
 use Rattle.rv_memory.proofs.RamLaws.{length-placed}
-use Rattle.rv_devices.specs.Sends.{words_left}
-use Rattle.rv_devices.specs.Serves.{Serves, activity_of}
+use Rattle.rv_devices.specs.Serves.{activity_of}
 use Rattle.rv_devices.proofs.SendLaws.{no_words}
 use Rattle.rv_devices.proofs.DiskLaws.{not_busy, accepted_below, accepted_sector, writing}
 use Rattle.rv_devices.proofs.disk.Disk.command.Goals as goal

@@ -1,4 +1,4 @@
-use Rattle.std.proofs.Common.{ℕ, ◌-◌, ◌*◌, ◌+◌, List, length, take, drop, arith, ap, length-take, length-drop}
+use Rattle.std.proofs.Common.{ℕ, ◌-◌, ◌*◌, ◌+◌, List, length, drop, arith, ap, length-take, length-drop}
 use Rattle.memory_map.specs.declared.TheConstants.{RAM_START}
 use Rattle.rv_devices.proofs.disk.Disk.write.Goals as goal
 

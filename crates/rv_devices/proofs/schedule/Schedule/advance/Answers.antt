@@ -1,7 +1,7 @@
-use Rattle.std.proofs.Common.{◌≡◌, ◌+◌, ◌≤◌, length, arith, rules, ◌∙◌, ap, sym, subst, List}
+use Rattle.std.proofs.Common.{◌≡◌, ◌+◌, ◌≤◌, length, arith, ◌∙◌, ap, sym, subst, List}
 use Rattle.machine_model.specs.Script.{Entry}
 use Rattle.machine_model.specs.Board.{RisesFrom}
-use Rattle.rv_devices.specs.Entries.{AreDue, AreLater, arrivals_at, latency_before}
+use Rattle.rv_devices.specs.Entries.{AreDue, arrivals_at, latency_before}
 use Rattle.rv_devices.specs.Follows.{Follows, left_of}
 use Rattle.rv_devices.proofs.EntryLaws.{AreDue-more, later_from}
 use Rattle.rv_devices.proofs.FollowLaws.{own, taken_within}

@@ -1,4 +1,4 @@
-use Rattle.std.proofs.Common.{◌≡◌, ◌+◌, ◌≤◌, ◌<◌, Some, None, slice_get, arith, length, rules, ◌∙◌, ap, sym, subst, List}
+use Rattle.std.proofs.Common.{◌≡◌, ◌+◌, ◌≤◌, ◌<◌, Some, None, slice_get, arith, length, rules, ◌∙◌, ap, sym, List}
 use Rattle.std.proofs.lemmas.Option.{slice_get_past}
 use Rattle.rv_devices.proofs.EntryLaws.{at_place, AreDue-next, ticks-next, latency-next}
 use Rattle.machine_model.specs.Board.{last_or, latency_by}

@@ -1,4 +1,4 @@
-use Rattle.std.proofs.Common.{◌≡◌, ◌≤◌, length, arith, rules, ◌∙◌, refl}
+use Rattle.std.proofs.Common.{◌≤◌, length, arith, rules, ◌∙◌, refl}
 use Rattle.rv_devices.specs.Entries.{arrivals_at}
 use Rattle.rv_devices.proofs.EntryLaws.{left_skipped}
 use Rattle.rv_devices.proofs.schedule.Schedule.skip.Goals as goal

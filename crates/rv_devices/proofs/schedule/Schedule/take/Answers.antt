@@ -1,11 +1,11 @@
-use Rattle.std.proofs.Common.{◌≡◌, ◌+◌, ◌<◌, ◌≤◌, length, drop, true, arith, rules, ◌∙◌, ap, sym, subst, List, ℕ}
-use Rattle.std.specs.Prelude.{if◌then◌else◌, nat_lt}
+use Rattle.std.proofs.Common.{◌≡◌, ◌+◌, ◌<◌, length, drop, true, arith, ◌∙◌, ap, sym, subst, List}
+use Rattle.std.specs.Prelude.{nat_lt}
 use Rattle.std.specs.List.{flat_map}
 use Rattle.std.proofs.lemmas.List.{drop-drop}
 use Rattle.machine_model.specs.Script.{Entry}
 use Rattle.machine_model.specs.Board.{arrivals_of}
 use Rattle.rv_devices.specs.Entries.{arrivals_at, latency_before}
-use Rattle.rv_devices.specs.Follows.{Follows, left_of}
+use Rattle.rv_devices.specs.Follows.{Follows}
 use Rattle.rv_devices.proofs.FollowLaws.{own, waits_true}
 use Rattle.rv_devices.proofs.schedule.Schedule.take.Goals as goal
 

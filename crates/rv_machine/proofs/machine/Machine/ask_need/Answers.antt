@@ -23,6 +23,6 @@ returns-in-Load c =
       gives = λ items is.
           let f = loaded o.left o.lines o.cpu o.board c.load-supplied.new.self items given c.in-Load.address c.in-Load.width (sym c.in-Load.ensures) c.load-supplied.ensures.value c.load-supplied.ensures.stands
           (subst (λ p. Awaits p o.left o.lines o.cpu o.board items) c.requires is) in
-          record { rest = f.rest; are = f.are ∙ ap (λ i. i ∷ f.rest) (sym item); to_come = f.after };
-      moves = omega (arith, weight);
+          record { rest = f.rest; first = f.are ∙ ap (λ i. i ∷ f.rest) (sym item); to_come = f.after };
+      moves = record { few = omega arith; less = omega (arith, weight) };
     }

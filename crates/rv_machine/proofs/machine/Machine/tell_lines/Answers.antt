@@ -14,8 +14,8 @@ returns-then-bits-self c =
     let o = c.args.self.now in
     let weight = ap (λ p. items_left p o.left (words_due o.board)) c.requires in
     record {
-      gives = λ items is. c.ask_need.ensures.gives items (unchanged o.left o.lines o.cpu o.board o.board items c.lines-bits.result c.lines-bits.ensures c.if-bits-self.true (subst (λ p. Awaits p o.left o.lines o.cpu o.board items) c.requires is));
-      moves = moves_from c.ask_need.result _ _ c.ask_need.new.self refl (omega (arith, weight)) c.ask_need.ensures.moves;
+      gives = λ items is. c.run_on.ensures.gives items (unchanged o.left o.lines o.cpu o.board o.board items c.lines-bits.result c.lines-bits.ensures c.if-bits-self.true (subst (λ p. Awaits p o.left o.lines o.cpu o.board items) c.requires is));
+      moves = moves_from c.run_on.result _ _ c.run_on.new.self refl (omega (arith, weight)) c.run_on.ensures.moves;
     }
 
 pub returns-else-bits-self : goal.returns-else-bits-self
@@ -26,6 +26,6 @@ returns-else-bits-self c =
     record {
       gives = λ items is.
           let f = told o.left o.lines o.cpu o.board o.board items c.lines-bits.result c.lines-bits.ensures c.if-bits-self.false (subst (λ p. Awaits p o.left o.lines o.cpu o.board items) c.requires is) in
-          record { rest = f.rest; are = f.are ∙ ap (λ i. i ∷ f.rest) (sym item); to_come = f.after };
-      moves = omega (arith, weight);
+          record { rest = f.rest; first = f.are ∙ ap (λ i. i ∷ f.rest) (sym item); to_come = f.after };
+      moves = record { few = omega arith; less = omega (arith, weight) };
     }

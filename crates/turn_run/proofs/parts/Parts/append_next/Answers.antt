@@ -1,11 +1,8 @@
-use Rattle.std.proofs.Common.{◌≡◌, ◌<◌, ◌≤◌, [], ◌∷◌, None, Some, arith, sym, ap, subst, ◌∙◌, drop, length}
+use Rattle.std.proofs.Common.{◌≡◌, ◌<◌, ◌≤◌, None, Some, arith, sym, ap, subst, ◌∙◌, drop, length}
 use Rattle.std.specs.Prelude.{MatchOption}
 use Rattle.std.specs.Result.{result_err}
-use Rattle.run_events.specs.declared.item.Item.{Item}
-use Rattle.gate_core.specs.Hub.{HubState, full_of, with_append}
-use Rattle.gate_core.specs.Follow.{hub_of}
-use Rattle.turn_run.specs.Course.{plan_of}
-use Rattle.turn_run.specs.Sources.{IsFirstOf, IsNextOf, items_left}
+use Rattle.gate_core.specs.Hub.{full_of}
+use Rattle.turn_run.specs.Sources.{IsNextOf, items_left}
 use Rattle.turn_run.proofs.AppendLaws.{after_append, after_close, lessens_append, lessens_close, lessens_none, next, rises, waits_for_gate, waits_for_log}
 use Rattle.turn_run.proofs.parts.Parts.append_next.Goals as goal
 

@@ -1,7 +1,6 @@
-use Rattle.std.proofs.Common.{◌≡◌, ◌<◌, length, Some, refl, sym, ap, ◌∙◌, arith, take}
-use Rattle.std.specs.Prelude.{slice_get, slice_index}
+use Rattle.std.proofs.Common.{length, refl, take}
+use Rattle.std.specs.Prelude.{slice_index}
 use Rattle.std.proofs.lemmas.Option.{slice_get_read}
-use Rattle.gate_core.specs.Hub.{HubState}
 use Rattle.turn_run.specs.Course.{log_of}
 use Rattle.turn_run.proofs.ReadLaws.{is_reader}
 use Rattle.turn_run.proofs.ReadTurnLaws.{lessens_of, reads_of}

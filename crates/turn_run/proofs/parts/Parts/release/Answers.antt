@@ -1,4 +1,4 @@
-use Rattle.std.proofs.Common.{◌≡◌, ◌≤◌, ◌∙◌, sym, ap, subst}
+use Rattle.std.proofs.Common.{◌≤◌, ◌∙◌, sym, ap, subst}
 use Rattle.std.specs.List.{All}
 use Rattle.gate_core.specs.Follow.{approvals}
 use Rattle.gate_core.specs.Hub.{approved_at}

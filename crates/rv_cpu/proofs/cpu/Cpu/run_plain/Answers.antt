@@ -1,0 +1,13 @@
+-- The laws of several steps, of the engine inside.
+use Rattle.std.proofs.Common.{◌≡◌, length, subst}
+use Rattle.hart_model.specs.Aligned.{IsAligned}
+use Rattle.hart_model.specs.State.{State}
+use Rattle.rv_cpu.proofs.CpuLaws.{after_aligned, after_sized}
+use Rattle.rv_cpu.proofs.cpu.Cpu.run_plain.Goals as goal
+
+pub invariant_of-self : goal.invariant_of-self
+invariant_of-self c = subst (λ (s : State). IsAligned s) c.run_plain.ensures.state (after_aligned _ _ _ c.self.invariant)
+
+pub returns-clause-size : goal.returns-clause-size
+returns-clause-size c =
+    rw (← c.self.view_is) (subst (λ (s : State). length s.ram ≡ length c.self.inside.engine.ram) c.run_plain.ensures.state (after_sized _ _ _))
