@@ -1,5 +1,5 @@
 -- What each end of a job's run means.
-use Rattle.std.specs.Prelude.{◌≡◌, ◌⊎◌, ℕ, List, ◌++◌, take}
+use Rattle.std.specs.Prelude.{◌≡◌, ◌⊎◌, ℕ, List, ◌++◌, length, take}
 use Rattle.list_laws.specs.Prefix.{IsPrefix}
 use Rattle.after_edge.specs.Fault.{Rose}
 use Rattle.after_edge.specs.Sink.{Telling, Adds, Writes, WritesPart}
@@ -11,10 +11,11 @@ use Rattle.guard_run.specs.Openings.{released_in}
 use Rattle.after_cli.specs.declared.running.JobEnd.{JobEnd}
 use Rattle.after_cli.specs.declared.running.JobEnd.TheVariants.{Done, OutputFailed, NoMemory}
 
--- some job is that of a closing whose run went to its end
-pub record HasJob (closing : Closing) : Type 0 where
+-- some job, which has so many analyses, is that of a closing whose run went to its end
+pub record IsOver (count : ℕ) (closing : Closing) : Type 0 where
   pub of : Job
   pub whole : IsWholeRun of closing
+  pub all : count ≡ length of.kinds
 
 -- A put of the guest's output failed. The closing's log has the first so many records of the job's, and the first so many
 -- bytes were written of those that are let out of these records.

@@ -1,4 +1,16 @@
 //! A job from its opening to its report.
+ghost use Rattle.std.specs.Prelude.{is_err, ◌≡◌, ◌≤◌, ◌++◌, length, IfOk, OnOk, OnErr};
+ghost use Rattle.std.specs.List.{flat_map};
+ghost use Rattle.after_edge.specs.Sink.{Writes, WritesPart};
+ghost use Rattle.analysis_model.specs.Report.{head_text, part_text};
+ghost use Rattle.analysis_set.specs.Head.{facts_of};
+ghost use Rattle.guard_run.specs.Closings.{IsWholeRun};
+ghost use Rattle.guard_run.specs.Jobs.{IsRunnable, job_of};
+ghost use Rattle.job_model.specs.Job.{Job, events, guest};
+ghost use Rattle.job_model.specs.Text.{has_finding, report, status, status_of};
+ghost use Rattle.run_settings.specs.Patterns.{IsPattern};
+ghost use Rattle.after_cli.specs.JobEnds.{IsOver, JobEnds};
+
 use after_edge::{Failed, Sink};
 use analysis_set::{Analysis, RunFacts, report_head, report_part};
 use guard_run::{Closing, Parts, RunJob, run_turns};
@@ -18,9 +30,15 @@ pub enum JobEnd {
     NoMemory,
 }
 
-// Writes the parts of the analyses, in order.
-fn report_parts<O: Sink>(closing: &Closing, out: &mut O) -> Result<(), Failed> {
-    for replica in 0..closing.replicas() {
+// Writes the parts of so many analyses, which are all, in order.
+fn report_parts<O: Sink>(closing: &Closing, count: u32, out: &mut O) -> Result<(), Failed>
+    requires { IsOver count closing.now }
+    ensures ok { OnOk result ((job : Job) → IsWholeRun job closing.now →
+        Writes O.told out.old out.new (flat_map (part_text (guest job) (events job)) job.kinds)) }
+    ensures err { OnErr result ((job : Job) → IsWholeRun job closing.now →
+        WritesPart O.told out.old out.new (flat_map (part_text (guest job) (events job)) job.kinds)) }
+{
+    for replica in 0..count {
         match report_part(closing.analysis(replica), out) {
             Ok(()) => {}
             Err(failed) => return Err(failed),
@@ -30,20 +48,35 @@ fn report_parts<O: Sink>(closing: &Closing, out: &mut O) -> Result<(), Failed> {
 }
 
 // Writes the report of a run that went to its end.
-fn report<O: Sink>(facts: &RunFacts, closing: &Closing, out: &mut O) -> Result<(), Failed> {
+fn write_report<O: Sink>(
+    facts: &RunFacts,
+    closing: &Closing,
+    count: u32,
+    out: &mut O,
+) -> Result<(), Failed>
+    requires { IsOver count closing.now }
+    ensures ok { OnOk result ((job : Job) → IsWholeRun job closing.now → Writes O.told out.old out.new
+        (head_text (facts_of facts.now) ++ flat_map (part_text (guest job) (events job)) job.kinds)) }
+    ensures err { OnErr result ((job : Job) → IsWholeRun job closing.now → WritesPart O.told out.old out.new
+        (head_text (facts_of facts.now) ++ flat_map (part_text (guest job) (events job)) job.kinds)) }
+{
     match report_head(facts, out) {
         Ok(()) => {}
         Err(failed) => return Err(failed),
     }
-    match report_parts(closing, out) {
+    match report_parts(closing, count, out) {
         Ok(()) => Ok(()),
         Err(failed) => Err(failed),
     }
 }
 
-// Whether an analysis has a finding.
-fn has_finding(closing: &Closing) -> bool {
-    for replica in 0..closing.replicas() {
+// Whether one of so many analyses, which are all, has a finding.
+fn has_finding(closing: &Closing, count: u32) -> bool
+    requires { IsOver count closing.now }
+    ensures { (job : Job) → IsWholeRun job closing.now →
+        result ≡ has_finding (guest job) (events job) job.kinds }
+{
+    for replica in 0..count {
         if closing.analysis(replica).first().is_some() {
             return true;
         }
@@ -52,7 +85,9 @@ fn has_finding(closing: &Closing) -> bool {
 }
 
 // The status of an end, and of whether there is a finding.
-fn status_number(end: EndCause, found: bool) -> u8 {
+fn status_number(end: EndCause, found: bool) -> u8
+    ensures { result ≡ status_of end found }
+{
     match (end, found) {
         (_, true) => 1,
         (EndCause::Power { .. }, false) => 0,
@@ -61,25 +96,37 @@ fn status_number(end: EndCause, found: bool) -> u8 {
 }
 
 // Writes the report of a run that went to its end. It answers the status.
-fn tell<O: Sink>(closing: &Closing, out: &mut O) -> Result<u8, Failed> {
+fn tell<O: Sink>(closing: &Closing, count: u32, out: &mut O) -> Result<u8, Failed>
+    requires { IsOver count closing.now }
+    ensures status { IfOk result (λ number. (job : Job) → IsWholeRun job closing.now → number ≡ status job) }
+    ensures ok { OnOk result ((job : Job) → IsWholeRun job closing.now →
+        Writes O.told out.old out.new (report job)) }
+    ensures err { OnErr result ((job : Job) → IsWholeRun job closing.now →
+        WritesPart O.told out.old out.new (report job)) }
+{
     let Some(facts) = closing.facts() else {
         unreachable!()
     };
-    match report(&facts, closing, out) {
+    match write_report(&facts, closing, count, out) {
         Ok(()) => {}
         Err(failed) => return Err(failed),
     }
-    Ok(status_number(facts.end, has_finding(closing)))
+    Ok(status_number(facts.end, has_finding(closing, count)))
 }
 
-/// Runs a job by turns: its released output and its report go out.
+/// Runs a job by turns: its released output and its report go out. It takes memory to open the run, and then none.
 pub fn run_job<O: Sink>(
     alloc: Global,
     job: &RunJob,
     turns: &[Letter],
     inputs: Inputs,
     out: &mut O,
-) -> JobEnd {
+) -> JobEnd
+    requires runnable { IsRunnable (job_of job.now inputs.image inputs.script inputs.disk.items) }
+    requires pattern { IsPattern (length job.now.kinds) turns.now }
+    ensures { JobEnds O.told out.old out.new
+        (job_of job.now inputs.image inputs.script inputs.disk.items) result }
+{
     let Inputs {
         image,
         script,
@@ -95,7 +142,7 @@ pub fn run_job<O: Sink>(
         Ok(()) => {}
         Err(_) => return JobEnd::OutputFailed { closing },
     }
-    match tell(&closing, out) {
+    match tell(&closing, job.kinds.len(), out) {
         Ok(status) => JobEnd::Done { status, closing },
         Err(_) => JobEnd::OutputFailed { closing },
     }

@@ -23,6 +23,7 @@ use Rattle.command_words.specs.declared.table.Setting.{Setting}
 use Rattle.command_words.specs.declared.table.Setting.TheVariants as setting
 use Rattle.command_words.specs.Jobs.{Job, Run, RunJob, Values, value_or, number_or, is_best, chosen, named_required, required, threads, turns, ram, steps, log, word_if, crossed_required, crossed_turns, run_job, run_of, job_of, read_as, job_in, is_short}
 use Rattle.command_words.specs.Values.{◌>>=◌, kinds, kinds_in, all_named, parts_of, onto_first, kind_named, number_in, size_in, turns_in, required_in, best_in}
+use Rattle.command_words.specs.Limits.{IsSize, IsWithin}
 use Rattle.command_words.specs.Roles.{Role, first_bad, found, plain_words, roles}
 use Rattle.command_words.specs.Table.{command_named}
 
@@ -43,12 +44,6 @@ number_bounds least most text n small is = by_result (number_at least most text)
       by_result : (r : Result ℕ Broken) → number_at least most text ≡ r → result_ok r ≡ Some n → (least ≤ n) × (n ≤ most)
       by_result (Ok m) read same = (let f = number_found least most m text small read in let e : m ≡ n = cc in (omega (arith, f.low), omega (arith, f.high)))
       by_result (Err e) read same = absurd (cc)
-
--- a power of two from 16 to 65,536
-pub record IsSize (n : ℕ) : Type 0 where
-  pub least : 16 ≤ n
-  pub most : n ≤ 65536
-  pub power : count_ones n ≡ 1
 
 default_size : IsSize 1024
 unfolding ones
@@ -164,16 +159,6 @@ turns_fit values none = by_value (values setting.Turns) refl
           (tells_pattern (length (chosen values)) (value_or (plain_turns (length (chosen values))) turns_in (Some given))).0 pattern
 
 -- ---- a run
-
--- what is asked of a run is within its limits
-pub record IsWithin (run : RunJob) : Type 0 where
-  pub ram_least : 64 ≤ run.ram_kib
-  pub ram_most : run.ram_kib ≤ 16384
-  pub limit : run.limit ≤ 1000000000
-  pub log : IsSize run.log
-  pub some : 1 ≤ length run.kinds
-  pub required : AllByRecursion (Contains run.kinds) run.required
-  pub turns : IsPattern (length run.kinds) run.turns
 
 values_within : (values : Values) (words : List (List ℕ)) → word_if (crossed_required values) (values setting.Require) ≡ None → word_if (crossed_turns values) (values setting.Turns) ≡ None → IsWithin (run_job values words)
 values_within values words required_fits turns_are =

@@ -1,0 +1,6 @@
+pub mod AnswerLaws
+pub mod ExactLaws
+pub mod FileLaws
+pub mod LogSizes
+pub mod ReleaseLaws
+pub mod ReportLaws
