@@ -1,7 +1,11 @@
 -- What words ask for, and the job of a run.
-use Rattle.std.specs.Prelude.{◌≡◌, ℕ, List, Option, Ok}
+use Rattle.std.specs.Prelude.{◌≡◌, ℕ, ◌<◌, List, Option, Result, Ok, Err}
 use Rattle.after_edge.specs.Files.{Contents}
-use Rattle.command_words.specs.Jobs.{RunJob, Run, job_in}
+use Rattle.command_words.specs.declared.fault.WordsFault.{WordsFault}
+use Rattle.command_words.specs.Jobs.{RunJob, Run, Record, Analyze, Show, Load, job_in}
+use Rattle.command_words.specs.Jobs as words
+use Rattle.refusals.specs.declared.refusal.Refusal.{Refusal}
+use Rattle.refusals.specs.declared.refusal.Refusal.TheVariants as refusal
 use Rattle.job_model.specs.Job.{Job}
 use Rattle.run_inputs.specs.Files.{Names, Comes}
 use Rattle.run_inputs.specs.Given.{Given, inputs_in}
@@ -27,6 +31,29 @@ job_for run given = record {
 pub record IsAsked (words : List (List ℕ)) (run : RunJob) : Type 0 where
   pub asked : job_in words ≡ Ok (Run run)
   pub plain : run.threads ≡ 0
+
+-- the words are no job
+abbrev pub AreNoJob : List (List ℕ) → Type 0
+AreNoJob words = (fault : WordsFault) × (job_in words ≡ Err fault)
+
+-- the words are a job that is not built: one of another command, or with threads
+abbrev pub IsMore : Result words.Job WordsFault → Type 0
+IsMore (Ok (Run run)) = 0 < run.threads
+IsMore (Ok (Record job)) = Unit {0}
+IsMore (Ok (Analyze job)) = Unit {0}
+IsMore (Ok (Show job)) = Unit {0}
+IsMore (Ok (Load job)) = Unit {0}
+IsMore (Err fault) = ⊥
+
+abbrev pub AsksForMore : List (List ℕ) → Type 0
+AsksForMore words = IsMore (job_in words)
+
+-- why words ask for no run that is built
+abbrev pub IsNoRun : List (List ℕ) → Refusal → Type 0
+IsNoRun words (refusal.Words fault) = job_in words ≡ Err fault
+IsNoRun words refusal.NotBuilt = AsksForMore words
+IsNoRun words (refusal.Inputs fault) = ⊥
+IsNoRun words refusal.NoMemory = ⊥
 
 -- the words ask for a run of this job, as far as the files tell what they are
 pub record IsRunOf (content : Option Contents) (words : List (List ℕ)) (job : Job) : Type 0 where

@@ -2,7 +2,6 @@
 use Rattle.std.specs.Prelude.{◌≡◌, ◌⊎◌, ℕ, List, Option, Some, None, Err}
 use Rattle.after_edge.specs.Files.{Contents}
 use Rattle.after_edge.specs.Sink.{Telling, Writes, WritesPart}
-use Rattle.command_words.specs.declared.fault.WordsFault.{WordsFault}
 use Rattle.command_words.specs.Jobs.{RunJob, job_in}
 use Rattle.job_model.specs.Job.{Job}
 use Rattle.guard_run.specs.declared.closing.Closing.{Closing}
@@ -13,7 +12,7 @@ use Rattle.refusals.specs.Status.{status_of}
 use Rattle.run_inputs.specs.Faults.{HasCause}
 use Rattle.run_inputs.specs.Given.{inputs_in}
 use Rattle.after_cli.specs.declared.top.Outcome.{Outcome}
-use Rattle.after_cli.specs.Asked.{IsAsked, IsRunOf, names_of}
+use Rattle.after_cli.specs.Asked.{AsksForMore, IsAsked, IsRunOf, names_of}
 use Rattle.after_cli.specs.JobEnds.{HasFailedOutput, IsDoneJob}
 
 -- A call of the program: its words; what the files tell, and how often they had failed before and after it; the output and
@@ -33,11 +32,6 @@ pub record Call (O E : Type 0) : Type 1 where
 -- the line was added, or the sink's count rose and some prefix of the line was added
 abbrev pub TellsLine : {E : Type 0} → Telling E → E → E → List ℕ → Type 0
 TellsLine sink old new told = Writes sink old new told ⊎ WritesPart sink old new told
-
--- the words ask for something that is not built: for no run, or for threads
-pub record AsksForMore (words : List (List ℕ)) : Type 0 where
-  pub no_words : (fault : WordsFault) → job_in words ≡ Err fault → ⊥
-  pub no_run : (run : RunJob) → IsAsked words run → ⊥
 
 -- Why a call does nothing: the words are no job; they ask for what is not built; or the files of a run are not taken. Want
 -- of memory has no cause, and comes only where a run is asked for.

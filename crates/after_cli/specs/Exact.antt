@@ -1,5 +1,5 @@
 -- What a call must come to where the files tell what they are, and neither they nor the output fail.
-use Rattle.std.specs.Prelude.{◌≡◌, ◌⊎◌, ℕ, ◌==◌, List, [], Option, Some, None, Result, Ok, Err, if◌then◌else◌}
+use Rattle.std.specs.Prelude.{◌≡◌, ◌⊎◌, ℕ, nat_lt, MatchBool, List, [], Option, Some, None, Result, Ok, Err}
 use Rattle.after_edge.specs.Files.{Contents}
 use Rattle.after_edge.specs.Sink.{Telling, Writes}
 use Rattle.command_words.specs.declared.fault.WordsFault.{WordsFault}
@@ -29,19 +29,19 @@ refused_status (BadImage fault) = 3
 refused_status (BadScript fault) = 4
 
 module _ {O : Type 0} (out : Telling O) (old new : O) (outcome : Outcome) where
-  -- of a run whose files give this: its whole text and its status, or the status of what refuses them
-  abbrev pub IsRight : RunJob → Result Given Refusal → Type 0
-  IsRight run (Ok given) = Writes out old new (text (job_for run given)) × (outcome.status ≡ status (job_for run given))
-  IsRight run (Err refusal) = outcome.status ≡ refused_status refusal
+  -- of a run whose files give this: its whole text and its status, or the status of what refuses them; or want of memory
+  abbrev pub IsRightBy : RunJob → Result Given Refusal → Type 0
+  IsRightBy run (Ok given) = (outcome.status ≡ 9) ⊎ (Writes out old new (text (job_for run given)) × (outcome.status ≡ status (job_for run given)))
+  IsRightBy run (Err refusal) = (outcome.status ≡ 9) ⊎ (outcome.status ≡ refused_status refusal)
 
-  -- or want of memory
   abbrev pub IsRightRun : Contents → RunJob → Type 0
-  IsRightRun files run = if run.threads == 0 then (outcome.status ≡ 9) ⊎ IsRight run (inputs_in run.ram_kib (found_in files (names_of run))) else outcome.status ≡ 10
+  IsRightRun files run = MatchBool (nat_lt 0 run.threads) (outcome.status ≡ 10) (IsRightBy run (inputs_in run.ram_kib (found_in files (names_of run))))
 
-  abbrev pub IsRightFor : Contents → Result words.Job WordsFault → Type 0
-  IsRightFor files (Ok (Run run)) = IsRightRun files run
-  IsRightFor files (Ok (Record other)) = outcome.status ≡ 10
-  IsRightFor files (Ok (Analyze other)) = outcome.status ≡ 10
-  IsRightFor files (Ok (Show other)) = outcome.status ≡ 10
-  IsRightFor files (Ok (Load other)) = outcome.status ≡ 10
-  IsRightFor files (Err fault) = outcome.status ≡ 2
+  -- of words that are this, over files that are these
+  abbrev pub IsRight : Contents → Result words.Job WordsFault → Type 0
+  IsRight files (Ok (Run run)) = IsRightRun files run
+  IsRight files (Ok (Record job)) = outcome.status ≡ 10
+  IsRight files (Ok (Analyze job)) = outcome.status ≡ 10
+  IsRight files (Ok (Show job)) = outcome.status ≡ 10
+  IsRight files (Ok (Load job)) = outcome.status ≡ 10
+  IsRight files (Err fault) = outcome.status ≡ 2

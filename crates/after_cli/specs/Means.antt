@@ -1,16 +1,20 @@
 -- What each answer of the call's inside means.
-use Rattle.std.specs.Prelude.{◌≡◌, ℕ, List, Option}
+use Rattle.std.specs.Prelude.{◌≡◌, ℕ, List, Option, Some, None, Result, Ok, Err}
 use Rattle.after_edge.specs.Files.{Contents}
+use Rattle.after_edge.specs.declared.sink.Failed.{Failed}
 use Rattle.after_edge.specs.Sink.{Telling}
 use Rattle.job_model.specs.Job.{Job}
 use Rattle.guard_run.specs.declared.closing.Closing.{Closing}
 use Rattle.refusals.specs.declared.refusal.Refusal.TheVariants.{NoMemory}
+use Rattle.refusals.specs.Lines.{output_failed_line, refusal_line}
+use Rattle.refusals.specs.Status.{status_of}
 use Rattle.after_cli.specs.declared.running.JobEnd.{JobEnd}
 use Rattle.after_cli.specs.declared.running.JobEnd.TheVariants as end
 use Rattle.after_cli.specs.declared.top.Answer.{Answer}
 use Rattle.after_cli.specs.declared.top.Answer.TheVariants.{Done, OutputFailed, Refused}
 use Rattle.after_cli.specs.Asked.{IsRunOf}
-use Rattle.after_cli.specs.Ends.{HasReason}
+use Rattle.after_cli.specs.declared.top.Outcome.{Outcome}
+use Rattle.after_cli.specs.Ends.{HasReason, TellsLine}
 use Rattle.after_cli.specs.JobEnds.{HasFailedOutput, IsDoneJob}
 
 -- the answer that a job's end gives
@@ -36,3 +40,14 @@ module _ {O : Type 0} (content : Option Contents) (words : List (List ℕ)) (bef
   Means (Done status closing) = HasDone status closing
   Means (OutputFailed closing) = HasBroken closing
   Means (Refused refusal) = HasReason content words before now refusal × (new ≡ old)
+
+-- how a call with an answer ends: its status and closing, and what is told of errors
+abbrev pub Concludes : {E : Type 0} → Answer → Telling E → (old new : E) → Outcome → Type 0
+Concludes (Done number closing) err old new outcome = (outcome ≡ record { status = number; closing = Some closing }) × (new ≡ old)
+Concludes (OutputFailed closing) err old new outcome = (outcome ≡ record { status = 6; closing = Some closing }) × TellsLine err old new output_failed_line
+Concludes (Refused refusal) err old new outcome = (outcome ≡ record { status = status_of refusal; closing = None }) × TellsLine err old new (refusal_line refusal)
+
+-- the same of a text that stands for itself
+abbrev pub IsShown : {E : Type 0} → Result (Unit {0}) Failed → Telling E → (old new : E) → Outcome → Type 0
+IsShown (Ok shown) err old new outcome = (outcome ≡ record { status = 0; closing = None }) × (new ≡ old)
+IsShown (Err failed) err old new outcome = (outcome ≡ record { status = 6; closing = None }) × TellsLine err old new output_failed_line
