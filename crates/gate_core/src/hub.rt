@@ -146,6 +146,13 @@ impl Hub {
         self.taken[reader as usize]
     }
 
+    /// How many readers there are.
+    pub fn readers(&self) -> u32
+        ensures { result ≡ length self.now.taken }
+    {
+        self.taken.len() as u32
+    }
+
     /// Whether the log was closed.
     pub fn is_closed(&self) -> bool
         ensures { result ≡ self.now.closed }

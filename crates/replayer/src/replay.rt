@@ -25,8 +25,8 @@ impl Replay {
     ghost use Rattle.any_machine.specs.Replay.{outcome, shown_by};
     ghost use Rattle.any_replay.specs.Replays.{state_in};
     ghost use Rattle.any_replay.specs.Taking.{answer_of, takes_after};
-    ghost use Rattle.replayer.specs.Guest.{started, ram_bytes};
-    ghost use Rattle.replayer.specs.Replays.{Replays};
+    ghost use Rattle.board_model.specs.Guest.{started};
+    ghost use Rattle.replayer.specs.Replays.{Replays, fault_of, ram_size_of, state_of, takes_of};
 
     /// A replay that was fed nothing, of a guest with this image and `ram_kib` KiB of RAM. It is the only call that
     /// takes memory.
@@ -36,8 +36,8 @@ impl Replay {
         requires loadable { IsLoadable (1024 * ram_kib) image.now.segments }
         requires entry { image.now.entry % grain ≡ 0 }
         ensures replays { IfOk result (λ replay. Replays (started image.now ram_kib) [] replay) }
-        ensures size { IfOk result (λ replay. ram_bytes replay.fed.standing.hart ≡ 1024 * ram_kib) }
-        ensures takes { IfOk result (λ replay. replay.fed.takes ≡ 0) }
+        ensures size { IfOk result (λ replay. ram_size_of replay ≡ 1024 * ram_kib) }
+        ensures takes { IfOk result (λ replay. takes_of replay ≡ 0) }
     {
         let mut ram = Ram::new(alloc, ram_kib)?;
         image.load_into(&mut ram);
@@ -52,17 +52,17 @@ impl Replay {
     /// nothing. It takes no memory.
     pub fn take<W: Watcher>(&mut self, item: &Record, seen: &mut W) -> Result<(), Diverged>
         requires item { IsRecord item.now }
-        requires size { ram_bytes self.old.fed.standing.hart ≡ 1024 * W.ram_kib seen.old }
-        ensures answer { result ≡ answer_of self.new.fed.diverged }
+        requires size { ram_size_of self.old ≡ 1024 * W.ram_kib seen.old }
+        ensures answer { result ≡ answer_of (fault_of self.new) }
         ensures replays { (start : State) (before : List Item) → Replays start before self.old
             → Replays start (item.now ∷ before) self.new }
         ensures shown { (start : State) (before : List Item) (h : List Shown) → Replays start before self.old
             → W.has_seen seen.old (h ++ shown_by hart start (outcome hart start before))
             → W.has_seen seen.new (h ++ shown_by hart start (outcome hart start (item.now ∷ before))) }
-        ensures diverged { IsTrue (is_some self.old.fed.diverged) → self.new ≡ self.old }
-        ensures still { IsTrue (is_some self.old.fed.diverged) → seen.new ≡ seen.old }
-        ensures takes { self.new.fed.takes ≡ takes_after self.old.fed.takes self.new.fed.diverged }
-        ensures ram { ram_bytes self.new.fed.standing.hart ≡ ram_bytes self.old.fed.standing.hart }
+        ensures diverged { IsTrue (is_some (fault_of self.old)) → self.new ≡ self.old }
+        ensures still { IsTrue (is_some (fault_of self.old)) → seen.new ≡ seen.old }
+        ensures takes { takes_of self.new ≡ takes_after (takes_of self.old) (fault_of self.new) }
+        ensures ram { ram_size_of self.new ≡ ram_size_of self.old }
         ensures size { W.ram_kib seen.new ≡ W.ram_kib seen.old }
         ensures made { W.make seen.new ≡ W.make seen.old }
     {
@@ -71,7 +71,7 @@ impl Replay {
 
     /// The number of steps done.
     pub fn reach(&self) -> u32
-        ensures done { result ≡ self.now.fed.standing.hart.step }
+        ensures done { result ≡ (state_of self.now).step }
         ensures executed { (start : State) (items : List Item) → Replays start items self.now
             → result ≡ (outcome hart start items).done }
     {
@@ -80,7 +80,7 @@ impl Replay {
 
     /// The hart.
     pub fn cpu(&self) -> &Cpu
-        ensures cpu { result.now ≡ self.now.fed.standing.hart }
+        ensures cpu { result.now ≡ state_of self.now }
         ensures state { (start : State) (items : List Item) → Replays start items self.now
             → result.now ≡ state_in hart start (outcome hart start items) }
     {
@@ -89,7 +89,7 @@ impl Replay {
 
     /// The number of records accepted, which stops at 2^64 - 1.
     pub fn takes(&self) -> u64
-        ensures { result ≡ self.now.fed.takes }
+        ensures { result ≡ takes_of self.now }
     {
         self.fed.takes()
     }

@@ -5,6 +5,7 @@ pub mod EndLaws
 pub mod IssueLaws
 pub mod LeastLaws
 pub mod ListLaws
+pub mod MakeLaws
 pub mod OpeningLaws
 pub mod PartLaws
 pub mod PeriodLaws

@@ -2,6 +2,7 @@
 ghost use Rattle.std.specs.Prelude.{◌≡◌, ◌<◌, ◌≤◌, true, false, length};
 ghost use Rattle.gate_core.specs.Core.{CoreState};
 ghost use Rattle.turn_run.specs.Course.{Course};
+ghost use Rattle.turn_run.specs.Following.{AreSame};
 ghost use Rattle.turn_run.specs.Closings.{IsReadOut, IsStopped};
 ghost use Rattle.turn_run.specs.Openings.{followers_of};
 ghost use Rattle.turn_run.specs.Periods.{HasReadAll, HasReadUp, IsBrokenRun};
@@ -25,9 +26,10 @@ impl<M: Recorder, F: Follower> Parts<M, F> {
     // Closes the log of a run whose put has failed, where it is still open, and has each follower read it to the close.
     pub(crate) fn stop(&mut self)
         requires { IsBrokenRun M.recording F.following self.old }
-        ensures { (c : Course) (core : CoreState)
+        ensures stopped { (c : Course) (core : CoreState)
             → IsBroken M.recording F.following c core self.old
             → IsStopped M.recording F.following c core.appended core.released self.new }
+        ensures made { AreSame F.following (followers_of self.old) (followers_of self.new) }
     {
         self.shut();
         self.read_all();
@@ -36,9 +38,10 @@ impl<M: Recorder, F: Follower> Parts<M, F> {
     // Closes the log of a run whose put has failed, where it is still open.
     fn shut(&mut self)
         requires { IsBrokenRun M.recording F.following self.old }
-        ensures { (c : Course) (core : CoreState)
+        ensures broken { (c : Course) (core : CoreState)
             → IsBroken M.recording F.following c core self.old
             → IsBroken M.recording F.following c (record core { closed = true }) self.new }
+        ensures made { AreSame F.following (followers_of self.old) (followers_of self.new) }
     {
         if self.hub.is_closed() {
             return;
@@ -53,6 +56,7 @@ impl<M: Recorder, F: Follower> Parts<M, F> {
             → IsFollowed F.following c core self.old
             → HasReadAll F.following c core self.new }
         ensures besides { IsBesides self.old self.new }
+        ensures made { AreSame F.following (followers_of self.old) (followers_of self.new) }
     {
         for reader in 0..self.followers.len() as u32 {
             self.read_up(reader);
@@ -67,6 +71,7 @@ impl<M: Recorder, F: Follower> Parts<M, F> {
             → IsFollowed F.following c core self.old
             → HasReadUp F.following c core reader self.new }
         ensures besides { IsBesides self.old self.new }
+        ensures made { AreSame F.following (followers_of self.old) (followers_of self.new) }
     {
         'taking: loop {
             match self.read(reader) {

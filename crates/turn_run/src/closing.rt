@@ -2,6 +2,7 @@
 ghost use Rattle.std.specs.Prelude.{◌≡◌, ◌<◌, ℕ, length, slice_get, Some};
 ghost use Rattle.turn_run.specs.Closings.{ClosesFront, ClosesWhole, IsEnded, IsReadOut, IsStopped, appended_of, ending_of, followers_of, issued_of, readers_of, released_of, taken_of};
 ghost use Rattle.turn_run.specs.Course.{Course};
+ghost use Rattle.turn_run.specs.Openings.{followers_of as followers_in};
 
 use crate::{Ending, Follower, Parts};
 use any_machine::Recorder;
@@ -23,6 +24,13 @@ impl<F: Follower> Closing<F> {
         ensures { result ≡ appended_of self.now }
     {
         self.hub.appended()
+    }
+
+    /// How many readers the log has, each of which is a follower.
+    pub fn readers(&self) -> u32
+        ensures { result ≡ readers_of self.now }
+    {
+        self.hub.readers()
     }
 
     /// How many records the follower with this number has taken.
@@ -73,6 +81,7 @@ impl<M: Recorder, F: Follower> Parts<M, F> {
         ensures front { (c : Course) (count put : ℕ)
             → IsStopped M.recording F.following c count put self
             → ClosesFront F.following c count put result }
+        ensures followers { followers_of result ≡ followers_in self }
     {
         Closing {
             hub: self.hub,

@@ -9,14 +9,15 @@ use run_events::Record;
 
 /// Something that takes the records of a log one after another, whatever they are, and says below which step it approves.
 pub trait Follower: Drop {
-    /// Which records it has taken, and what it says once it has taken some.
+    /// Which records it has taken, what it says once it has taken some, and what it was made of.
     ghost following: { Following Self };
 
     /// Takes the next record. It takes no memory.
     fn take(&mut self, item: &Record)
         requires { IsRecord item.now }
         ensures taken { (items : List Record) → following.has_taken self.old items → following.has_taken self.new (items ++ item.now ∷ []) }
-        ensures same { SaysSame following self.old self.new };
+        ensures same { SaysSame following self.old self.new }
+        ensures made { following.make self.new ≡ following.make self.old };
 
     /// Below which step it approves, and whether it refuses the rest.
     fn verdict(&self) -> Verdict

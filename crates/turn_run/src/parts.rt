@@ -7,8 +7,9 @@ ghost use Rattle.gate_core.specs.Follow.{approvals};
 ghost use Rattle.gate_core.specs.Hub.{approved_at, is_cap};
 ghost use Rattle.output_gate.specs.Gate.{is_full};
 ghost use Rattle.turn_run.specs.Course.{Course, IsMarked};
+ghost use Rattle.turn_run.specs.Following.{AreSame};
 ghost use Rattle.turn_run.specs.Gates.{least_approved, refusals, with_item, withheld_from};
-ghost use Rattle.turn_run.specs.Openings.{IsCourseOf, IsOpened};
+ghost use Rattle.turn_run.specs.Openings.{IsCourseOf, IsOpened, followers_of};
 ghost use Rattle.turn_run.specs.Runs.{HasBroken, HasReleased, IsAt, IsBesides, IsFollowed, IsFollowedRun, IsSoundRun, Lessens, LessensRead, Reads, Records};
 
 use crate::ending::Ending;
@@ -62,9 +63,10 @@ impl<M: Recorder, F: Follower> Parts<M, F> {
         requires some { 1 ≤ vec_len followers }
         requires few { vec_len followers ≤ 8 }
         requires there { All (λ reader. reader < vec_len followers) required.items }
-        ensures { IfOk result (λ parts. (c : Course)
+        ensures opened { IfOk result (λ parts. (c : Course)
             → IsCourseOf M.recording F.following c recorder followers.items required.items cap
             → IsOpened M.recording F.following c parts) }
+        ensures followers { IfOk result (λ parts. followers_of parts ≡ followers.items) }
     {
         let readers = followers.len() as u32;
         Ok(Parts {
@@ -83,6 +85,7 @@ impl<M: Recorder, F: Follower> Parts<M, F> {
         requires { IsSoundRun M.recording F.following self.old }
         ensures records { (c : Course) (core : CoreState) → IsAt M.recording F.following c core self.old → Records M.recording F.following c core result self.old self.new }
         ensures lessens { Lessens M.recording F.following result self.old self.new }
+        ensures made { AreSame F.following (followers_of self.old) (followers_of self.new) }
     {
         if self.hub.is_closed() {
             return Recorded::Over;
@@ -114,6 +117,7 @@ impl<M: Recorder, F: Follower> Parts<M, F> {
         ensures reads { (c : Course) (core : CoreState) → IsFollowed F.following c core self.old → Reads F.following c core reader result self.old self.new }
         ensures besides { IsBesides self.old self.new }
         ensures lessens { LessensRead result self.old self.new }
+        ensures made { AreSame F.following (followers_of self.old) (followers_of self.new) }
     {
         let follower = &mut self.followers[reader as usize];
         read_next(follower, reader, &mut self.hub)
@@ -125,6 +129,7 @@ impl<M: Recorder, F: Follower> Parts<M, F> {
         requires { IsSoundRun M.recording F.following self.old }
         ensures ok { OnOk result ((c : Course) (core : CoreState) → IsAt M.recording F.following c core self.old → HasReleased M.recording F.following c core self.old self.new O.told out.old out.new) }
         ensures err { OnErr result ((c : Course) (core : CoreState) → IsAt M.recording F.following c core self.old → HasBroken M.recording F.following c core self.new O.told out.old out.new) }
+        ensures made { AreSame F.following (followers_of self.old) (followers_of self.new) }
     {
         let required: &[u32] = &self.required;
         let below = least_approved(&self.hub, required);

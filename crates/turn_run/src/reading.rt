@@ -1,5 +1,5 @@
 //! A turn of a reader of the log.
-ghost use Rattle.std.specs.Prelude.{List};
+ghost use Rattle.std.specs.Prelude.{◌≡◌, List};
 ghost use Rattle.run_events.specs.declared.record.Record.{Record};
 ghost use Rattle.turn_run.specs.Replicas.{IsReader, Reads, Turned};
 
@@ -21,7 +21,8 @@ pub enum Turn {
 /// where there is one, and posts below which step it approves then. It takes no memory.
 pub fn read_next<F: Follower>(follower: &mut F, reader: u32, hub: &mut Hub) -> Turn
     requires { IsReader F.following hub.old reader follower.old }
-    ensures { (items : List Record) → Reads F.following hub.old reader follower.old items → Turned F.following result hub.old hub.new reader follower.old follower.new items }
+    ensures turned { (items : List Record) → Reads F.following hub.old reader follower.old items → Turned F.following result hub.old hub.new reader follower.old follower.new items }
+    ensures made { F.following.make follower.new ≡ F.following.make follower.old }
 {
     match hub.take(reader) {
         Take::Got(item) => {

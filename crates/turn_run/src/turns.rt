@@ -3,6 +3,7 @@ ghost use Rattle.std.specs.Prelude.{◌⊎◌, ◌<◌, length, OnOk, OnErr};
 ghost use Rattle.gate_core.specs.Core.{CoreState};
 ghost use Rattle.run_settings.specs.Patterns.{IsLetter, IsPattern};
 ghost use Rattle.turn_run.specs.Course.{Course};
+ghost use Rattle.turn_run.specs.Following.{AreSame};
 ghost use Rattle.turn_run.specs.Closings.{HasEnded, HasStopped, IsReadOut};
 ghost use Rattle.turn_run.specs.Openings.{IsOpened, IsOpenedRun, followers_of};
 ghost use Rattle.turn_run.specs.Periods.{Moves};
@@ -31,6 +32,7 @@ pub fn run_turns<M: Recorder, F: Follower, O: Sink>(
     ensures err { OnErr result ((c : Course)
         → IsOpened M.recording F.following c parts.old
         → HasStopped M.recording F.following c parts.new O.told out.old out.new) }
+    ensures made { AreSame F.following (followers_of parts.old) (followers_of parts.new) }
 {
     match take_all_turns(parts, turns, out) {
         Ok(()) => Ok(()),
@@ -55,6 +57,7 @@ fn take_all_turns<M: Recorder, F: Follower, O: Sink>(
     ensures err { OnErr result ((c : Course)
         → IsOpened M.recording F.following c parts.old
         → HasCrashed M.recording F.following c 0 parts.new O.told out.old out.new) }
+    ensures made { AreSame F.following (followers_of parts.old) (followers_of parts.new) }
 {
     while !parts.is_read_out() {
         match take_period(parts, turns, out) {
@@ -84,6 +87,7 @@ fn take_period<M: Recorder, F: Follower, O: Sink>(
     ensures err { OnErr result ((c : Course) (core : CoreState)
         → IsAt M.recording F.following c core parts.old
         → HasCrashed M.recording F.following c core.released parts.new O.told out.old out.new) }
+    ensures made { AreSame F.following (followers_of parts.old) (followers_of parts.new) }
 {
     for letter in turns {
         match take_turn(parts, *letter, out) {
@@ -109,6 +113,7 @@ fn take_turn<M: Recorder, F: Follower, O: Sink>(
     ensures err { OnErr result ((c : Course) (core : CoreState)
         → IsAt M.recording F.following c core parts.old
         → HasCrashed M.recording F.following c core.released parts.new O.told out.old out.new) }
+    ensures made { AreSame F.following (followers_of parts.old) (followers_of parts.new) }
 {
     match letter {
         Letter::Record => {

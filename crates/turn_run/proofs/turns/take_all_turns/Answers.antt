@@ -1,25 +1,37 @@
-use Rattle.std.proofs.Common.{refl}
+use Rattle.std.proofs.Common.{◌∙◌, refl}
 use Rattle.turn_run.proofs.EndLaws.{ends}
 use Rattle.turn_run.proofs.PeriodLaws.{come_on, crash_on, crashes}
 use Rattle.turn_run.proofs.turns.take_all_turns.Goals as goal
 
 pub loop-parts-preserved : goal.loop-parts-preserved
-loop-parts-preserved g c = λ of opened.
-    let now = c.loop-parts.invariant of opened in
-    come_on g.M.Recorder.recording g.F.Follower.following of g.O.Sink.told 0 c.loop-parts.parts c.take_period.new.parts c.args.out.now c.loop-parts.out c.take_period.new.out now (c.in-Ok.ensures.come of now.next now.at)
+loop-parts-preserved g c = record {
+  come = λ of opened. (
+      let now = c.loop-parts.invariant.come of opened in
+      come_on g.M.Recorder.recording g.F.Follower.following of g.O.Sink.told 0 c.loop-parts.parts c.take_period.new.parts c.args.out.now c.loop-parts.out c.take_period.new.out now (c.in-Ok.ensures.come of now.next now.at));
+  made = c.take_period.ensures.made ∙ c.loop-parts.invariant.made;
+}
+
+pub returns-in-Err-clause-made : goal.returns-in-Err-clause-made
+returns-in-Err-clause-made g c = c.take_period.ensures.made ∙ c.loop-parts.invariant.made
+
+pub returns-in-Ok-release-clause-made : goal.returns-in-Ok-release-clause-made
+returns-in-Ok-release-clause-made g c = c.release.ensures.made ∙ c.loop-parts.invariant.made
+
+pub returns-in-Err-release-clause-made : goal.returns-in-Err-release-clause-made
+returns-in-Err-release-clause-made g c = c.release.ensures.made ∙ c.loop-parts.invariant.made
 
 pub returns-in-Err-clause-err : goal.returns-in-Err-clause-err
 returns-in-Err-clause-err g c = λ of opened.
-    let now = c.loop-parts.invariant of opened in
+    let now = c.loop-parts.invariant.come of opened in
     crash_on g.M.Recorder.recording g.F.Follower.following of g.O.Sink.told 0 c.loop-parts.parts c.take_period.new.parts c.args.out.now c.loop-parts.out c.take_period.new.out now (c.in-Err.ensures.err of now.next now.at)
 
 pub returns-in-Ok-release-clause-ok : goal.returns-in-Ok-release-clause-ok
 returns-in-Ok-release-clause-ok g c = λ of opened.
-    let now = c.loop-parts.invariant of opened in
+    let now = c.loop-parts.invariant.come of opened in
     ends g.M.Recorder.recording g.F.Follower.following of g.O.Sink.told c.loop-parts.parts c.release.new.self c.args.out.now c.loop-parts.out c.release.new.out now (c.loop-parts-test.ensures.yes refl) (c.in-Ok-release.ensures.ok of now.next now.at)
 
 pub returns-in-Err-release-clause-err : goal.returns-in-Err-release-clause-err
 returns-in-Err-release-clause-err g c = λ of opened.
-    let now = c.loop-parts.invariant of opened in
+    let now = c.loop-parts.invariant.come of opened in
     crash_on g.M.Recorder.recording g.F.Follower.following of g.O.Sink.told 0 c.loop-parts.parts c.release.new.self c.args.out.now c.loop-parts.out c.release.new.out now
     (crashes g.M.Recorder.recording g.F.Follower.following of g.O.Sink.told now.next c.loop-parts.parts c.release.new.self c.loop-parts.out c.release.new.out now.at (c.in-Err-release.ensures.err of now.next now.at))

@@ -1,4 +1,4 @@
-use Rattle.std.proofs.Common.{◌≡◌, length, subst, ap, arith}
+use Rattle.std.proofs.Common.{◌∙◌, ◌≡◌, length, subst, ap, arith}
 use Rattle.std.proofs.lemmas.List.{take_all}
 use Rattle.gate_core.specs.Hub.{HubState}
 use Rattle.run_settings.specs.Patterns.{IsPattern}
@@ -22,7 +22,11 @@ loop-letter-preserved g c = record {
       let now = c.loop-letter.invariant.come of core at in
       come_on g.M.Recorder.recording g.F.Follower.following of g.O.Sink.told core.released c.loop-letter.parts c.take_turn.new.parts c.args.out.now c.loop-letter.out c.take_turn.new.out now (c.in-Ok.ensures.come of now.next now.at));
   moved = move_on g.M.Recorder.recording g.F.Follower.following c.args.parts.now c.loop-letter.parts c.take_turn.new.parts c.args.turns.now c.loop-letter.letter-index _ c.loop-letter-test.true c.loop-letter.invariant.moved c.in-Ok.ensures.moves;
+  made = c.take_turn.ensures.made ∙ c.loop-letter.invariant.made;
 }
+
+pub returns-in-Err-clause-made : goal.returns-in-Err-clause-made
+returns-in-Err-clause-made g c = c.take_turn.ensures.made ∙ c.loop-letter.invariant.made
 
 pub returns-clause-falls : goal.returns-clause-falls
 returns-clause-falls g c =

@@ -1,4 +1,4 @@
-use Rattle.std.proofs.Common.{arith}
+use Rattle.std.proofs.Common.{◌∙◌, arith}
 use Rattle.turn_run.proofs.StopLaws.{besides-then, read_more}
 use Rattle.turn_run.proofs.parts.Parts.read_all.Goals as goal
 
@@ -8,6 +8,7 @@ loop-reader-preserved g c = record {
       let now = c.loop-reader.invariant.read of core follows in
       read_more g.F.Follower.following of core c.loop-reader.reader c.loop-reader.self c.read_up.new.self now (c.read_up.ensures.read of now.on.next now.on.follows));
   besides = besides-then c.args.self.now c.loop-reader.self c.read_up.new.self c.loop-reader.invariant.besides c.read_up.ensures.besides;
+  made = c.read_up.ensures.made ∙ c.loop-reader.invariant.made;
 }
 
 pub returns-clause-read : goal.returns-clause-read

@@ -1,0 +1,101 @@
+//! A replica: an analysis of a run, and the replay that shows it what the records say.
+ghost use Rattle.std.specs.Prelude.{◌≡◌, ◌*◌, ◌%◌, ◌≤◌, IfOk};
+ghost use Rattle.analysis_set.specs.Analysis.{kib_of};
+ghost use Rattle.guard_run.specs.Verdicts.{verdict_from};
+ghost use Rattle.hart_model.specs.Fetch.{grain};
+ghost use Rattle.machine_model.specs.Image.{IsLoadable};
+ghost use Rattle.replayer.specs.Replays.{ram_size_of};
+
+use analysis_set::{Analysis, AnyAnalysis};
+use elf_image::Image;
+use gate_core::Verdict;
+use memory_map::NoMemory;
+use replayer::Replay;
+use run_events::{Kind, Record};
+use std::alloc::Global;
+use turn_run::Follower;
+
+/// An analysis of a guest that is given a list of records, whatever it is: it replays the list, and sees what the replay
+/// shows. It knows the guest and its kind of analysis, and no call changes them.
+#[derive(Drop)]
+pub struct Replica {
+    image: Image,
+    ram_kib: u32,
+    kind: Kind,
+    replay: Replay,
+    analysis: AnyAnalysis,
+    ghost size: { ram_size_of replay ≡ 1024 * kib_of analysis },
+}
+
+impl Replica {
+    ghost use Rattle.guard_run.specs.Replicas.{IsFresh, analysis_of};
+
+    /// A replica of the guest of this image and `ram_kib` KiB of RAM, with an analysis of this kind, that was given no
+    /// record. It is the only call that takes memory.
+    pub fn new(alloc: Global, image: &Image, ram_kib: u32, kind: Kind) -> Result<Replica, NoMemory>
+        requires least { 64 ≤ ram_kib }
+        requires most { ram_kib ≤ 16384 }
+        requires loadable { IsLoadable (1024 * ram_kib) image.now.segments }
+        requires aligned { image.now.entry % grain ≡ 0 }
+        ensures { IfOk result (λ replica. IsFresh image.now ram_kib kind replica) }
+    {
+        Ok(Replica {
+            image: image.copy(alloc)?,
+            ram_kib,
+            kind,
+            replay: Replay::new(alloc, image, ram_kib)?,
+            analysis: AnyAnalysis::new(alloc, kind, image, ram_kib)?,
+        })
+    }
+
+    /// Its analysis.
+    pub fn analysis(&self) -> &AnyAnalysis
+        ensures { result.now ≡ analysis_of self.now }
+    {
+        &self.analysis
+    }
+}
+
+// An analysis with a first finding approves the steps below it and refuses the rest; one with none approves all that was
+// executed.
+fn verdict_of(first: Option<u32>, reach: u32) -> Verdict
+    ensures { result ≡ verdict_from first reach }
+{
+    match first {
+        Some(step) => Verdict {
+            approved: step,
+            refused: true,
+        },
+        None => Verdict {
+            approved: reach,
+            refused: false,
+        },
+    }
+}
+
+impl Follower for Replica {
+    ghost use Rattle.guard_run.specs.Beginnings.{replica_rises, replica_starts};
+    ghost use Rattle.guard_run.specs.Replicas.{replicas_follow};
+
+    ghost following = { replicas_follow };
+
+    ghost starts = { replica_starts };
+
+    ghost rises = { replica_rises };
+
+    fn take(&mut self, item: &Record) {
+        // After a fault of the list the replay stands still, and so does what is said of it.
+        let _fault = self.replay.take(item, &mut self.analysis);
+    }
+
+    fn verdict(&self) -> Verdict {
+        verdict_of(self.analysis.first(), self.replay.reach())
+    }
+}
+
+// A replica may be handed to another thread.
+fn crosses_threads<T: Send>(_value: &T) {}
+
+fn replica_crosses_threads(replica: &Replica) {
+    crosses_threads(replica);
+}
