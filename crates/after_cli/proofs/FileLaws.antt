@@ -17,7 +17,7 @@ module _ (told : Contents) (names : Names) where
   one_disk (Some name) found is = is told refl
 
   one_found : (found : Found) → AreFound (Some told) names found → found_in told names ≡ found
-  one_found found are = let a = are.image told refl in let b = are.script told refl in let c = one_disk names.disk found.disk are.disk in cc
+  one_found found are = rw (are.image told refl, are.script told refl, one_disk names.disk found.disk are.disk) refl
 
   -- what a reader gives is what it gives of what stands there
   pub one_answer : {Y : Type 0} (read : Found → Result Y Refusal) (answer : Result Y Refusal) → Comes read (Some told) names answer → read (found_in told names) ≡ answer

@@ -6,6 +6,7 @@ use Rattle.std.proofs.lemmas.Grind.{flat_map-append}
 use Rattle.std.proofs.lemmas.List.{take_all}
 use Rattle.std.proofs.lemmas.List.Folds.{list_any-append}
 use Rattle.std.proofs.lemmas.Option.{same_Some}
+use Rattle.list_laws.specs.Prefix.{IsPrefix}
 use Rattle.list_laws.proofs.PlaceLaws.{there_within}
 use Rattle.list_laws.proofs.PrefixLaws.{take-next, take_IsPrefix}
 use Rattle.run_events.specs.declared.event.Event.{Event}
@@ -40,7 +41,7 @@ tells_of job closing number analysis whole within at =
     record {
       kind = kind.0;
       there = kind.1;
-      seen = subst (λ (h : List Event). HasSeen analysis h) whole.all (subst (λ (a : AnyAnalysis). HasSeen a _) (sym same) read.seen);
+      seen = subst (λ (a : AnyAnalysis). HasSeen a (events job)) (sym same) read.seen;
       part = part_made-of (made_of analysis) kind.0 job.image (kib_of analysis) (events job) made ∙ ap (λ (kib : ℕ). part_text (guest_of job.image kib) (events job) kind.0) size;
       first = ap first_step (findings_made-of (made_of analysis) kind.0 job.image (kib_of analysis) (events job) made ∙ ap (λ (kib : ℕ). findings kind.0 (guest_of job.image kib) (events job)) size);
     }
@@ -58,6 +59,13 @@ pub parts_next : (job : Job) (number : ℕ) (kind : Kind) → slice_get job.kind
 parts_next job number kind there =
     let part = part_text (guest job) (events job) in
     sym (ap (flat_map part) (take-next number job.kinds kind there) ∙ flat_map-append part (take number job.kinds) (kind ∷ []) ∙ ap (λ l. flat_map part (take number job.kinds) ++ l) (append-nil (part kind)))
+
+-- the first parts begin all of them
+pub parts_front : (job : Job) (count : ℕ) → IsPrefix (flat_map (part_text (guest job) (events job)) (take count job.kinds)) (flat_map (part_text (guest job) (events job)) job.kinds)
+parts_front job count =
+    let part = part_text (guest job) (events job) in
+    let whole = take_IsPrefix count job.kinds in
+    record { rest = flat_map part whole.rest; joined = sym (flat_map-append part (take count job.kinds) whole.rest) ∙ ap (flat_map part) whole.joined }
 
 -- whether one of so many has it, and of one more
 or_none : (x y : Bool) → x ≡ false → y ≡ false → (x || y) ≡ false
@@ -80,3 +88,10 @@ any_found test kinds number kind there is =
     let here : list_any test front ≡ true = ap (list_any test) (take-next number kinds kind there) ∙ list_any-append test (take number kinds) (kind ∷ []) ∙ or_right (list_any test (take number kinds)) (list_any test (kind ∷ [])) (or_left (test kind) false is) in
     let whole = take_IsPrefix (number + 1) kinds in
     ap (list_any test) (sym whole.joined) ∙ list_any-append test front whole.rest ∙ or_left (list_any test front) (list_any test whole.rest) here
+
+-- all parts are those of all analyses
+pub parts_all : (job : Job) (count : ℕ) → count ≡ length job.kinds → flat_map (part_text (guest job) (events job)) (take count job.kinds) ≡ flat_map (part_text (guest job) (events job)) job.kinds
+parts_all job count is = ap (flat_map (part_text (guest job) (events job))) (take_all count job.kinds (omega (arith, is)))
+
+pub any_all : (test : Kind → Bool) (kinds : List Kind) (count : ℕ) → count ≡ length kinds → list_any test (take count kinds) ≡ false → list_any test kinds ≡ false
+any_all test kinds count is none = ap (list_any test) (sym (take_all count kinds (omega (arith, is)))) ∙ none

@@ -203,10 +203,17 @@ pub fn aftersight_plain<F: Files, O: Sink, E: Sink>(
 ) -> Outcome
     // What the call comes to, each with all that stands then, and with its cause.
     ensures ends { Ends (record {
-        words = map string_bytes words.now;
-        content = F.content files.old; faults = F.faults files.old; faults_after = F.faults files.new;
-        out = O.told; old = out.old; new = out.new;
-        err = E.told; err_old = err.old; err_new = err.new }) result }
+      words = map string_bytes words.now;
+      content = F.content files.old;
+      faults = F.faults files.old;
+      faults_after = F.faults files.new;
+      out = O.told;
+      old = out.old;
+      new = out.new;
+      err = E.told;
+      err_old = err.old;
+      err_new = err.new;
+    }) result }
 
     // Where the files tell what they are, and neither they nor the output fail, it comes to what the definitions say of the
     // words and the files, or to want of memory.

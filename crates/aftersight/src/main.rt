@@ -3,7 +3,7 @@
 
 mod command_line;
 
-use after_cli::{Outcome, aftersight_plain, end_shown, end_with, fault_before};
+use after_cli::{Outcome, aftersight_plain, end_shown, end_with, refusal_before};
 use after_edge::{Sink, StdFiles, StdSink};
 use command_line::{HostWords, read_words, text_of_lone};
 use refusals::Refusal;
@@ -30,9 +30,7 @@ fn main(rt: HostRuntime) -> ExitCode {
     let mut err = StdSink::new(rt.stderr());
     let outcome = match read_words(&rt) {
         Ok(HostWords::Text(words)) => answer(&rt, &words, &mut out, &mut err),
-        Ok(HostWords::Broken(words)) => {
-            end_with(Refusal::Words(fault_before(&words)), &mut err)
-        }
+        Ok(HostWords::Broken(words)) => end_with(refusal_before(&words), &mut err),
         Err(_) => end_with(Refusal::NoMemory, &mut err),
     };
     ExitCode::from(outcome.status)

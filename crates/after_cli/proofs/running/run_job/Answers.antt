@@ -1,0 +1,61 @@
+use Rattle.std.proofs.Common.{arith, inl, inr}
+use Rattle.after_edge.proofs.SinkLaws.{Adds-then, Writes-then, WritesPart-more, WritesPart-prefix, WritesPart-then}
+use Rattle.after_edge.proofs.FaultLaws.{Rose-later}
+use Rattle.std.specs.Prelude.{take}
+use Rattle.guard_run.specs.Jobs.{job_of}
+use Rattle.guard_run.specs.Openings.{released_in}
+use Rattle.job_model.specs.Job.{Job, released_bytes}
+use Rattle.job_model.specs.Text.{report}
+use Rattle.after_cli.proofs.ReleaseLaws.{released_front}
+use Rattle.after_cli.proofs.running.run_job.Goals as goal
+
+pub returns-in-Err-ran : goal.returns-in-Err-ran
+returns-in-Err-ran g c =
+    let job : Job = job_of c.args.job.now c.args.inputs.image c.args.inputs.script c.args.inputs.disk.items in
+    let stopped = c.in-Err-ran.ensures.err job c.in-Ok.ensures in
+    record {
+      written = WritesPart-more g.O.Sink.told c.args.out.now c.run_turns-ran.new.out (released_bytes job) (report job) (record {
+        part = take stopped.put (released_in job stopped.count);
+        is_prefix = released_front job stopped.count stopped.put c.requires.runnable.marked;
+        added = stopped.added;
+        rose = stopped.rose;
+      });
+      cut = inl (record {
+        count = stopped.count;
+        put = stopped.put;
+        added = stopped.added;
+        closing_is = c.finish-closing.ensures.cut job stopped.count stopped.put stopped.stopped;
+      });
+    }
+
+pub tell-requires : goal.tell-requires
+tell-requires g c =
+    let job : Job = job_of c.args.job.now c.args.inputs.image c.args.inputs.script c.args.inputs.disk.items in
+    record { of = job; whole = c.finish-closing.ensures.whole job (c.in-Ok-ran.ensures.ok job c.in-Ok.ensures).ended; all = c.len.ensures.number }
+
+pub returns-in-Ok-tell : goal.returns-in-Ok-tell
+returns-in-Ok-tell g c =
+    let job : Job = job_of c.args.job.now c.args.inputs.image c.args.inputs.script c.args.inputs.disk.items in
+    let ended = c.in-Ok-ran.ensures.ok job c.in-Ok.ensures in
+    let whole = c.finish-closing.ensures.whole job ended.ended in
+    record {
+      written = Writes-then g.O.Sink.told c.args.out.now c.run_turns-ran.new.out c.tell.new.out (released_bytes job) (report job) ended.put (c.in-Ok-tell.ensures.ok job whole);
+      status_is = c.in-Ok-tell.ensures.status job whole;
+      closing_is = whole;
+    }
+
+pub returns : goal.returns
+returns g c =
+    let job : Job = job_of c.args.job.now c.args.inputs.image c.args.inputs.script c.args.inputs.disk.items in
+    let ended = c.in-Ok-ran.ensures.ok job c.in-Ok.ensures in
+    let whole = c.finish-closing.ensures.whole job ended.ended in
+    let told = c.in-Err-tell.ensures.err job whole in
+    record {
+      written = WritesPart-then g.O.Sink.told c.args.out.now c.run_turns-ran.new.out c.tell.new.out (released_bytes job) (report job) ended.put told;
+      cut = inr (record {
+        part = told.part;
+        is_prefix = told.is_prefix;
+        added = Adds-then g.O.Sink.told.holds c.args.out.now c.run_turns-ran.new.out c.tell.new.out (released_bytes job) told.part ended.put.added told.added;
+        closing_is = whole;
+      });
+    }
