@@ -1,5 +1,7 @@
 pub mod AnswerLaws
-pub mod CompleteLaws
-pub mod DefaultJob
-pub mod InputLaws
-pub mod JobLaws
+pub mod ExactLaws
+pub mod FileLaws
+pub mod LogSizes
+pub mod ReleaseLaws
+pub mod ReportLaws
+mod AskedLaws

@@ -1,6 +1,5 @@
-pub mod Answer
-pub mod Inputs
-pub mod Job
+pub mod Asked
+pub mod Ends
+pub mod Exact
 pub mod JobEnds
 pub mod Means
-pub mod Words

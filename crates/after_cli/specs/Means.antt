@@ -1,47 +1,53 @@
 -- What each answer of the call's inside means.
-use Rattle.std.specs.Prelude.{◌≡◌, ℕ, List, Option, Some, None}
+use Rattle.std.specs.Prelude.{◌≡◌, ℕ, List, Option, Some, None, Result, Ok, Err}
 use Rattle.after_edge.specs.Files.{Contents}
+use Rattle.after_edge.specs.declared.sink.Failed.{Failed}
 use Rattle.after_edge.specs.Sink.{Telling}
-use Rattle.after_cli.specs.declared.top.Answer.{Answer}
-use Rattle.after_cli.specs.declared.top.Answer.TheVariants.{Done, FilesFailed, OutputFailed, NoMemory, NotBuilt}
+use Rattle.job_model.specs.Job.{Job}
 use Rattle.guard_run.specs.declared.closing.Closing.{Closing}
+use Rattle.refusals.specs.declared.refusal.Refusal.TheVariants.{NoMemory}
+use Rattle.refusals.specs.Lines.{output_failed_line, refusal_line}
+use Rattle.refusals.specs.Status.{status_of}
 use Rattle.after_cli.specs.declared.running.JobEnd.{JobEnd}
 use Rattle.after_cli.specs.declared.running.JobEnd.TheVariants as end
-use Rattle.after_cli.specs.declared.inputs.Refusal.{Refusal}
-use Rattle.after_cli.specs.declared.inputs.Refusal.TheVariants as refusal
-use Rattle.after_cli.specs.Answer.{IsDone, OutputHasFailed, FilesHaveFailed, IsNotBuilt}
-
-abbrev pub number_of : Answer → ℕ
-number_of (Done status closing) = status
-number_of FilesFailed = 5
-number_of (OutputFailed closing) = 6
-number_of NoMemory = 9
-number_of NotBuilt = 10
-
--- a run was opened exactly where there is a closing
-abbrev pub closing_in : Answer → Option Closing
-closing_in (Done status closing) = Some closing
-closing_in (OutputFailed closing) = Some closing
-closing_in FilesFailed = None
-closing_in NoMemory = None
-closing_in NotBuilt = None
-
--- what each answer says of the words, the files and the output
-abbrev pub Means : {S : Type 0} → Option Contents → List (List ℕ) → ℕ → ℕ → Telling S → S → S → Answer → Type 0
-Means content words before now sink old new (Done status closing) = IsDone content words sink old new status (Some closing)
-Means content words before now sink old new FilesFailed = FilesHaveFailed content words before now × (new ≡ old)
-Means content words before now sink old new (OutputFailed closing) = OutputHasFailed content words sink old new (Some closing)
-Means content words before now sink old new NoMemory = new ≡ old
-Means content words before now sink old new NotBuilt = IsNotBuilt content words × (new ≡ old)
+use Rattle.after_cli.specs.declared.top.Answer.{Answer}
+use Rattle.after_cli.specs.declared.top.Answer.TheVariants.{Done, OutputFailed, Refused}
+use Rattle.after_cli.specs.Asked.{IsRunOf}
+use Rattle.after_cli.specs.declared.top.Outcome.{Outcome}
+use Rattle.after_cli.specs.Ends.{HasReason, TellsLine}
+use Rattle.after_cli.specs.JobEnds.{HasFailedOutput, IsDoneJob}
 
 -- the answer that a job's end gives
 abbrev pub answer_of : JobEnd → Answer
 answer_of (end.Done status closing) = Done status closing
 answer_of (end.OutputFailed closing) = OutputFailed closing
-answer_of end.NoMemory = NoMemory
+answer_of end.NoMemory = Refused NoMemory
 
--- the answer that a refusal gives
-abbrev pub answer_to : Refusal → Answer
-answer_to refusal.FilesFailed = FilesFailed
-answer_to refusal.NotBuilt = NotBuilt
-answer_to refusal.NoMemory = NoMemory
+module _ {O : Type 0} (content : Option Contents) (words : List (List ℕ)) (before now : ℕ) (out : Telling O) (old new : O) where
+  -- a run of some job was done, or its output failed
+  pub record HasDone (number : ℕ) (closing : Closing) : Type 0 where
+    pub job : Job
+    pub run : IsRunOf content words job
+    pub done : IsDoneJob out old new job number closing
+
+  pub record HasBroken (closing : Closing) : Type 0 where
+    pub job : Job
+    pub run : IsRunOf content words job
+    pub failed : HasFailedOutput out old new job closing
+
+  -- what an answer says of the words, the files and the output
+  abbrev pub Means : Answer → Type 0
+  Means (Done status closing) = HasDone status closing
+  Means (OutputFailed closing) = HasBroken closing
+  Means (Refused refusal) = HasReason content words before now refusal × (new ≡ old)
+
+-- how a call with an answer ends: its status and closing, and what is told of errors
+abbrev pub Concludes : {E : Type 0} → Answer → Telling E → (old new : E) → Outcome → Type 0
+Concludes (Done number closing) err old new outcome = (outcome ≡ record { status = number; closing = Some closing }) × (new ≡ old)
+Concludes (OutputFailed closing) err old new outcome = (outcome ≡ record { status = 6; closing = Some closing }) × TellsLine err old new output_failed_line
+Concludes (Refused refusal) err old new outcome = (outcome ≡ record { status = status_of refusal; closing = None }) × TellsLine err old new (refusal_line refusal)
+
+-- the same of a text that stands for itself
+abbrev pub IsShown : {E : Type 0} → Result (Unit {0}) Failed → Telling E → (old new : E) → Outcome → Type 0
+IsShown (Ok shown) err old new outcome = (outcome ≡ record { status = 0; closing = None }) × (new ≡ old)
+IsShown (Err failed) err old new outcome = (outcome ≡ record { status = 6; closing = None }) × TellsLine err old new output_failed_line

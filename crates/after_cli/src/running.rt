@@ -1,25 +1,22 @@
 //! A job from its opening to its report.
-ghost use Rattle.std.specs.Prelude.{is_err, ◌≡◌, ◌*◌, ◌≤◌, ◌++◌, List, is_some, length, IfOk, OnOk, OnErr};
-ghost use Rattle.after_edge.specs.Sink.{Telling, Writes, WritesPart};
-ghost use Rattle.run_events.specs.declared.event.Event.{Event};
-ghost use Rattle.machine_model.specs.Image.{flat_image};
-ghost use Rattle.analysis_model.specs.Job.{status_of};
-ghost use Rattle.analysis_model.specs.Made.{code_made_of, kind_made_of};
+ghost use Rattle.std.specs.Prelude.{is_err, ◌≡◌, ◌≤◌, ◌++◌, length, IfOk, OnOk, OnErr};
+ghost use Rattle.std.specs.List.{flat_map};
+ghost use Rattle.after_edge.specs.Sink.{Writes, WritesPart};
 ghost use Rattle.analysis_model.specs.Report.{head_text, part_text};
-ghost use Rattle.analysis_set.specs.Analysis.{HasSeen, made_of};
 ghost use Rattle.analysis_set.specs.Head.{facts_of};
-ghost use Rattle.guard_run.specs.Closings.{ClosesWhole};
-ghost use Rattle.guard_run.specs.Course.{Course, IsCourse};
-ghost use Rattle.guard_run.specs.Runs.{IsOpened};
-ghost use Rattle.after_cli.specs.Job.{job_course, cover_job, report_text, status_at};
-ghost use Rattle.after_cli.specs.JobEnds.{HasCourse, JobEnds};
+ghost use Rattle.guard_run.specs.Closings.{IsWholeRun};
+ghost use Rattle.guard_run.specs.Jobs.{IsRunnable, job_of};
+ghost use Rattle.job_model.specs.Job.{Job, events, guest};
+ghost use Rattle.job_model.specs.Text.{has_finding, report, status, status_of};
+ghost use Rattle.run_settings.specs.Patterns.{IsPattern};
+ghost use Rattle.after_cli.specs.JobEnds.{IsOver, JobEnds};
 
 use after_edge::{Failed, Sink};
-use analysis_set::{AnyAnalysis, RunFacts, report_head, report_part};
-use elf_image::read_flat;
+use analysis_set::{Analysis, RunFacts, report_head, report_part};
 use guard_run::{Closing, Parts, RunJob, run_turns};
-use memory_map::NoMemory;
 use run_events::EndCause;
+use run_inputs::Inputs;
+use run_settings::Letter;
 use std::alloc::Global;
 
 /// What a job came to.
@@ -33,96 +30,119 @@ pub enum JobEnd {
     NoMemory,
 }
 
-/// How many records the log holds at a time.
-const LOG_CAP: u32 = 1024;
-
-// Opens a flat guest. It takes all the memory of the run.
-fn open(alloc: Global, file: Vec<u8>, ram_kib: u32, limit: u32) -> Result<Parts, NoMemory>
-    requires least { 64 ≤ ram_kib }
-    requires most { ram_kib ≤ 16384 }
-    requires fits { length file.items ≤ 1024 * ram_kib }
-    requires steps { limit ≤ 1000000000 }
-    ensures { IfOk result (λ parts. IsOpened (job_course (cover_job file.items ram_kib limit)) parts) }
+// Writes the parts of so many analyses, which are all, in order.
+fn report_parts<O: Sink>(closing: &Closing, count: u32, out: &mut O) -> Result<(), Failed>
+    requires { IsOver count closing.now }
+    ensures ok { OnOk result ((job : Job) → IsWholeRun job closing.now →
+        Writes O.told out.old out.new (flat_map (part_text (guest job) (events job)) job.kinds)) }
+    ensures err { OnErr result ((job : Job) → IsWholeRun job closing.now →
+        WritesPart O.told out.old out.new (flat_map (part_text (guest job) (events job)) job.kinds)) }
 {
-    let image = read_flat(alloc, file)?;
-    let job = RunJob {
-        ram_kib,
-        limit,
-        cap: LOG_CAP,
-    };
-    Parts::new(alloc, &job, &image)
+    for replica in 0..count {
+        match report_part(closing.analysis(replica), out) {
+            Ok(()) => {}
+            Err(failed) => return Err(failed),
+        }
+    }
+    Ok(())
 }
 
-// Writes the report of a run that an analysis has seen.
-fn report<O: Sink>(facts: &RunFacts, analysis: &AnyAnalysis, out: &mut O) -> Result<(), Failed>
-    ensures ok { OnOk result ((h : List Event) → HasSeen analysis.now h → Writes O.told out.old out.new (head_text (facts_of facts.now) ++ part_text (code_made_of (made_of analysis.now)) h (kind_made_of (made_of analysis.now)))) }
-    ensures err { OnErr result ((h : List Event) → HasSeen analysis.now h → WritesPart O.told out.old out.new (head_text (facts_of facts.now) ++ part_text (code_made_of (made_of analysis.now)) h (kind_made_of (made_of analysis.now)))) }
+// Writes the report of a run that went to its end.
+fn write_report<O: Sink>(
+    facts: &RunFacts,
+    closing: &Closing,
+    count: u32,
+    out: &mut O,
+) -> Result<(), Failed>
+    requires { IsOver count closing.now }
+    ensures ok { OnOk result ((job : Job) → IsWholeRun job closing.now → Writes O.told out.old out.new
+        (head_text (facts_of facts.now) ++ flat_map (part_text (guest job) (events job)) job.kinds)) }
+    ensures err { OnErr result ((job : Job) → IsWholeRun job closing.now → WritesPart O.told out.old out.new
+        (head_text (facts_of facts.now) ++ flat_map (part_text (guest job) (events job)) job.kinds)) }
 {
     match report_head(facts, out) {
         Ok(()) => {}
         Err(failed) => return Err(failed),
     }
-    match report_part(analysis, out) {
+    match report_parts(closing, count, out) {
         Ok(()) => Ok(()),
         Err(failed) => Err(failed),
     }
 }
 
-// The status of an end, and of the first finding's step.
-fn status_number(end: EndCause, first: Option<u32>) -> u8
-    ensures { result ≡ status_of end (is_some first) }
+// Whether one of so many analyses, which are all, has a finding.
+fn has_finding(closing: &Closing, count: u32) -> bool
+    requires { IsOver count closing.now }
+    ensures { (job : Job) → IsWholeRun job closing.now →
+        result ≡ has_finding (guest job) (events job) job.kinds }
 {
-    match (end, first) {
-        (EndCause::Stuck, _) => 11,
-        (_, Some(_)) => 1,
-        (EndCause::Power { .. }, None) => 0,
-        (EndCause::Limit, None) => 8,
+    for replica in 0..count {
+        if closing.analysis(replica).first().is_some() {
+            return true;
+        }
+    }
+    false
+}
+
+// The status of an end, and of whether there is a finding.
+fn status_number(end: EndCause, found: bool) -> u8
+    ensures { result ≡ status_of end found }
+{
+    match (end, found) {
+        (_, true) => 1,
+        (EndCause::Power { .. }, false) => 0,
+        (EndCause::Limit, false) => 8,
     }
 }
 
 // Writes the report of a run that went to its end. It answers the status.
-fn tell<O: Sink>(closing: &Closing, out: &mut O) -> Result<u8, Failed>
-    requires { HasCourse closing.now }
-    ensures status { IfOk result (λ number. (c : Course) → IsCourse c → ClosesWhole c closing.now → number ≡ status_at c) }
-    ensures ok { OnOk result ((c : Course) → IsCourse c → ClosesWhole c closing.now → Writes O.told out.old out.new (report_text c)) }
-    ensures err { OnErr result ((c : Course) → IsCourse c → ClosesWhole c closing.now → WritesPart O.told out.old out.new (report_text c)) }
+fn tell<O: Sink>(closing: &Closing, count: u32, out: &mut O) -> Result<u8, Failed>
+    requires { IsOver count closing.now }
+    ensures status { IfOk result (λ number. (job : Job) → IsWholeRun job closing.now → number ≡ status job) }
+    ensures ok { OnOk result ((job : Job) → IsWholeRun job closing.now →
+        Writes O.told out.old out.new (report job)) }
+    ensures err { OnErr result ((job : Job) → IsWholeRun job closing.now →
+        WritesPart O.told out.old out.new (report job)) }
 {
     let Some(facts) = closing.facts() else {
         unreachable!()
     };
-    let analysis = closing.analysis(0);
-    match report(&facts, analysis, out) {
+    match write_report(&facts, closing, count, out) {
         Ok(()) => {}
         Err(failed) => return Err(failed),
     }
-    Ok(status_number(facts.end, analysis.first()))
+    Ok(status_number(facts.end, has_finding(closing, count)))
 }
 
-/// Runs a flat guest with coverage, which is required: its released output and the report go out.
+/// Runs a job by turns: its released output and its report go out. It takes memory to open the run, and then none.
 pub fn run_job<O: Sink>(
     alloc: Global,
-    file: Vec<u8>,
-    ram_kib: u32,
-    limit: u32,
+    job: &RunJob,
+    turns: &[Letter],
+    inputs: Inputs,
     out: &mut O,
 ) -> JobEnd
-    requires least { 64 ≤ ram_kib }
-    requires most { ram_kib ≤ 16384 }
-    requires fits { length file.items ≤ 1024 * ram_kib }
-    requires steps { limit ≤ 1000000000 }
-    ensures { JobEnds O.told out.old out.new (cover_job file.items ram_kib limit) result }
+    requires runnable { IsRunnable (job_of job.now inputs.image inputs.script inputs.disk.items) }
+    requires pattern { IsPattern (length job.now.kinds) turns.now }
+    ensures { JobEnds O.told out.old out.new
+        (job_of job.now inputs.image inputs.script inputs.disk.items) result }
 {
-    let mut parts = match open(alloc, file, ram_kib, limit) {
+    let Inputs {
+        image,
+        script,
+        disk,
+    } = inputs;
+    let mut parts = match Parts::new(alloc, job, &image, script, disk) {
         Ok(parts) => parts,
         Err(_) => return JobEnd::NoMemory,
     };
-    let ran = run_turns(&mut parts, out);
+    let ran = run_turns(&mut parts, turns, out);
     let closing = parts.finish();
     match ran {
         Ok(()) => {}
         Err(_) => return JobEnd::OutputFailed { closing },
     }
-    match tell(&closing, out) {
+    match tell(&closing, job.kinds.len(), out) {
         Ok(status) => JobEnd::Done { status, closing },
         Err(_) => JobEnd::OutputFailed { closing },
     }

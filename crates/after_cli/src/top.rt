@@ -1,21 +1,25 @@
 //! The top call, and what it answers.
-ghost use Rattle.std.specs.Prelude.{◌≡◌, ◌≤◌, ℕ, List, None, map, string_bytes};
-ghost use Rattle.after_cli.specs.Answer.{IsDone, OutputHasFailed, FilesHaveFailed, IsNotBuilt, IsOfDone, IsOfRefusal, IsStatus, IsToldRun, IsWhole, TellsLine, line_of};
+ghost use Rattle.std.specs.Prelude.{◌≡◌, ◌+◌, ◌↔◌, List, ℕ, Some, None, IfOk, MatchResult, length, map, string_bytes, unwrap_or};
 ghost use Rattle.after_edge.specs.Fault.{Rose};
-ghost use Rattle.after_cli.specs.Means.{Means, answer_of, answer_to, closing_in, number_of};
+ghost use Rattle.after_edge.specs.Files.{Contents};
+ghost use Rattle.command_words.specs.Jobs.{first_bad_in, job_in};
+ghost use Rattle.command_words.specs.declared.fault.WordsFault.TheVariants.{Word};
+ghost use Rattle.command_words.specs.Sound.{IsSoundRun};
+ghost use Rattle.command_words.specs.Says.{run_said};
+ghost use Rattle.refusals.specs.Lines.{output_failed_line, refusal_line};
+ghost use Rattle.refusals.specs.Status.{status_of};
+ghost use Rattle.after_cli.specs.Asked.{AreNoJob, AsksForMore, IsAsked, IsNoRun};
+ghost use Rattle.after_cli.specs.Ends.{Ends, TellsLine};
+ghost use Rattle.after_cli.specs.Exact.{IsRight};
+ghost use Rattle.after_cli.specs.Means.{Concludes, IsShown, Means, answer_of};
 
-use crate::command_words::run_words;
-use crate::inputs::{Refusal, read_inputs};
 use crate::running::{JobEnd, run_job};
-use after_edge::{Files, Sink};
-use guard_run::Closing;
+use after_edge::{Failed, Files, Sink};
+use command_words::{Command, RunWords, WordsFault, first_bad_before, read_words};
+use guard_run::{Closing, RunJob};
+use refusals::{Refusal, output_failed};
+use run_inputs::read_inputs;
 use std::alloc::Global;
-
-/// The RAM of a guest, in KiB.
-const RAM_KIB: u32 = 1024;
-
-/// The most steps of a run.
-const LIMIT: u32 = 10_000_000;
 
 /// What a call of the program comes to.
 #[derive(Drop)]
@@ -30,120 +34,165 @@ pub struct Outcome {
 #[derive(Drop)]
 enum Answer {
     Done { status: u8, closing: Closing },
-    FilesFailed,
     OutputFailed { closing: Closing },
-    NoMemory,
-    NotBuilt,
+    Refused(Refusal),
 }
 
 impl Answer {
-    fn status(&self) -> u8
-        ensures { result ≡ number_of self.now }
-    {
-        match self {
-            Answer::Done { status, .. } => *status,
-            Answer::FilesFailed => 5,
-            Answer::OutputFailed { .. } => 6,
-            Answer::NoMemory => 9,
-            Answer::NotBuilt => 10,
-        }
-    }
-
-    fn closing(self) -> Option<Closing>
-        ensures { result ≡ closing_in self }
-    {
-        match self {
-            Answer::Done { closing, .. } | Answer::OutputFailed { closing } => Some(closing),
-            Answer::FilesFailed | Answer::NoMemory | Answer::NotBuilt => None,
-        }
-    }
-
     fn of_job(end: JobEnd) -> Answer
         ensures { result ≡ answer_of end }
     {
         match end {
             JobEnd::Done { status, closing } => Answer::Done { status, closing },
             JobEnd::OutputFailed { closing } => Answer::OutputFailed { closing },
-            JobEnd::NoMemory => Answer::NoMemory,
-        }
-    }
-
-    fn of_refusal(refusal: Refusal) -> Answer
-        ensures { result ≡ answer_to refusal }
-    {
-        match refusal {
-            Refusal::FilesFailed => Answer::FilesFailed,
-            Refusal::NotBuilt => Answer::NotBuilt,
-            Refusal::NoMemory => Answer::NoMemory,
+            JobEnd::NoMemory => Answer::Refused(Refusal::NoMemory),
         }
     }
 }
 
+// The run that words ask for, on one thread.
+fn asked_run(words: &[String]) -> Result<RunWords<'_>, Refusal>
+    ensures is { MatchResult result (λ run. IsAsked (map string_bytes words.now) (run_said run))
+        (IsNoRun (map string_bytes words.now)) }
+    ensures sound { IfOk result (λ run. IsSoundRun (run_said run)) }
+{
+    let run = match read_words(words) {
+        Ok(Command::Run(run)) => run,
+        Ok(Command::Record(_)) => return Err(Refusal::NotBuilt),
+        Ok(Command::Analyze(_)) => return Err(Refusal::NotBuilt),
+        Ok(Command::Show(_)) => return Err(Refusal::NotBuilt),
+        Ok(Command::Load(_)) => return Err(Refusal::NotBuilt),
+        Err(fault) => return Err(Refusal::Words(fault)),
+    };
+    if run.threads == 0 {
+        Ok(run)
+    } else {
+        Err(Refusal::NotBuilt)
+    }
+}
+
 // Reads the files of a run and runs it.
+fn answer_run<F: Files, O: Sink>(
+    alloc: Global,
+    run: &RunWords<'_>,
+    files: &mut F,
+    out: &mut O,
+) -> Answer
+    requires { IsSoundRun (run_said run.now) }
+    ensures means { (words : List (List ℕ)) → IsAsked words (run_said run.now) →
+        Means (F.content files.old) words (F.faults files.old) (F.faults files.new) O.told out.old out.new result }
+    ensures same { F.content files.new ≡ F.content files.old }
+{
+    let inputs = match read_inputs(alloc, files, run.image, run.script, run.disk, run.ram_kib) {
+        Ok(inputs) => inputs,
+        Err(fault) => return Answer::Refused(Refusal::Inputs(fault)),
+    };
+    let job = RunJob {
+        ram_kib: run.ram_kib,
+        limit: run.limit,
+        cap: run.log,
+        kinds: run.kinds,
+        required: run.required,
+    };
+    Answer::of_job(run_job(alloc, &job, run.turns.letters(), inputs, out))
+}
+
+// Judges the words, and does what they ask for.
 fn answer_words<F: Files, O: Sink>(
     alloc: Global,
     words: &[String],
     files: &mut F,
     out: &mut O,
 ) -> Answer
-    ensures means { Means (F.content files.old) (map string_bytes words.now) (F.faults files.old) (F.faults files.new) O.told out.old out.new result }
+    ensures means { Means (F.content files.old) (map string_bytes words.now)
+        (F.faults files.old) (F.faults files.new) O.told out.old out.new result }
     ensures same { F.content files.new ≡ F.content files.old }
 {
-    let Some(run) = run_words(words) else {
-        return Answer::NotBuilt;
-    };
-    let file = match read_inputs(alloc, files, run.image, run.script) {
-        Ok(file) => file,
-        Err(refusal) => return Answer::of_refusal(refusal),
-    };
-    Answer::of_job(run_job(alloc, file, RAM_KIB, LIMIT, out))
+    match asked_run(words) {
+        Ok(run) => answer_run(alloc, &run, files, out),
+        Err(refusal) => Answer::Refused(refusal),
+    }
 }
 
-// Writes the line of a status, if it has one. A failure to write it changes nothing else.
-#[tactic(auto, unfolding(crate::specs::Answer::line_of))]
-fn tell_status<E: Sink>(status: u8, err: &mut E)
-    ensures told { TellsLine E.told err.old err.new (line_of status) }
-    ensures quiet { IsOfDone status → err.new ≡ err.old }
-{
-    let line: &[u8] = match status {
-        5 => b"files: failed\n",
-        6 => b"output failed\n",
-        9 => b"no memory\n",
-        10 => b"not built\n",
-        _ => return,
-    };
-    let _ = err.put(line);
-}
-
-/// The end of a call with this status that has opened no run: it writes the status' line, if it has one.
-pub fn end_with<E: Sink>(status: u8, err: &mut E) -> Outcome
-    ensures status { result.status ≡ status }
+/// The end of a call that does nothing, for this reason, whose line it writes. A failure to write it changes nothing else.
+pub fn end_with<E: Sink>(refusal: Refusal, err: &mut E) -> Outcome
+    ensures status { result.status ≡ status_of refusal }
     ensures closing { result.closing ≡ None }
-    ensures told { TellsLine E.told err.old err.new (line_of status) }
-    ensures quiet { IsOfDone status → err.new ≡ err.old }
+    ensures told { TellsLine E.told err.old err.new (refusal_line refusal) }
 {
-    tell_status(status, err);
+    let _ = err.put(refusal.line().as_bytes());
     Outcome {
-        status,
+        status: refusal.status(),
         closing: None,
     }
 }
 
+// The end of a call whose output failed: it writes the line that says so.
+fn end_failed<E: Sink>(closing: Option<Closing>, err: &mut E) -> Outcome
+    ensures status { result.status ≡ 6 }
+    ensures closing { result.closing ≡ closing }
+    ensures told { TellsLine E.told err.old err.new output_failed_line }
+{
+    let _ = err.put(output_failed().as_bytes());
+    Outcome { status: 6, closing }
+}
+
+/// The end of a call that has put a text of its own, by what the put came to: status 0, or 6 and its line.
+pub fn end_shown<E: Sink>(shown: Result<(), Failed>, err: &mut E) -> Outcome
+    ensures { IsShown shown E.told err.old err.new result }
+{
+    match shown {
+        Ok(()) => Outcome {
+            status: 0,
+            closing: None,
+        },
+        Err(Failed) => end_failed(None, err),
+    }
+}
+
+// The end of a call with this answer.
+fn end_answer<E: Sink>(answer: Answer, err: &mut E) -> Outcome
+    ensures { Concludes answer E.told err.old err.new result }
+{
+    match answer {
+        Answer::Done { status, closing } => Outcome {
+            status,
+            closing: Some(closing),
+        },
+        Answer::OutputFailed { closing } => end_failed(Some(closing), err),
+        Answer::Refused(refusal) => end_with(refusal, err),
+    }
+}
+
+/// What is wrong with words of which one is no text, by the words before it: the first of them that is bad by itself, or
+/// else the one that is no text.
+pub fn refusal_before(words: &[String]) -> Refusal
+    ensures { result ≡ Refusal.Words (Word (unwrap_or (first_bad_in (map string_bytes words.now)) (length words.now + 1))) }
+{
+    let number = match first_bad_before(words) {
+        Some(number) => number,
+        None => words.len() as u32 + 1,
+    };
+    Refusal::Words(WordsFault::Word { number })
+}
+
 /// The program on one thread: the words of a command line, and the files and sinks of its outside.
 ///
-/// It runs `run IMAGE SCRIPT --with cover`: IMAGE is a flat guest of at most 1,048,576 bytes, SCRIPT is empty. The
-/// guest's output goes to `out` up to the first step that coverage refuses, then the report. It always returns.
+/// It does each `run` on one thread: the guest's output goes to `out` up to the first step that a required analysis
+/// refuses, then the report. It always returns.
 ///
-/// - 0, 1, 8, 11: the run was done, and `out` got the job's whole text. 0 after power with no finding, 1 with a finding,
-///   8 after the step limit with no finding, 11 where the run came to a step that is not built yet.
-/// - 5: a file is absent, or `files` failed. Nothing was added to `out`.
+/// - 0, 1, 8: the run was done, and `out` got the job's whole text. 0 after power with no finding, 1 with a finding, 8 after
+///   the step limit with no finding.
+/// - 2: the words are no job.
+/// - 3, 4: the image or the disk, or the script, is refused or too long.
+/// - 5: a file is absent, or `files` failed.
 /// - 6: a put of `out` failed, and its count of faults rose. Some prefix of the job's text was added.
-/// - 9: no memory; no clause says when it comes. Nothing was added to `out`.
-/// - 10: the words or the files are not those of a run that is built. Nothing was added to `out`.
+/// - 9: no memory; no clause ties it to a cause.
+/// - 10: the words are a job that is not built: of another command, or with threads.
 ///
-/// `closing` is there exactly where a run was opened: with the statuses of a run that was done, and with 6. It holds the
-/// one log and what the replica has made of it. After a failed put the log was closed where it stood, and the replica has
-/// read to the close.
+/// The words are judged first, then what is not built, then the files. With the statuses other than those of a run that was
+/// done, and 6, nothing was added to `out`, and there is no `closing`. `closing` holds the one log and what the replicas
+/// have made of it. After a failed put the log was closed where it stood, and each replica has read to the close.
 ///
 /// A refusal, and status 6, writes its line on `err`; a failure of `err` changes no answer. The files' content is as before.
 pub fn aftersight_plain<F: Files, O: Sink, E: Sink>(
@@ -153,34 +202,32 @@ pub fn aftersight_plain<F: Files, O: Sink, E: Sink>(
     out: &mut O,
     err: &mut E,
 ) -> Outcome
-    ensures status { IsStatus result.status }
+    // What the call comes to, each with all that stands then, and with its cause.
+    ensures ends { Ends (record {
+      words = map string_bytes words.now;
+      content = F.content files.old;
+      faults = F.faults files.old;
+      faults_after = F.faults files.new;
+      out = O.told;
+      old = out.old;
+      new = out.new;
+      err = E.told;
+      err_old = err.old;
+      err_new = err.new;
+    }) result }
 
-    // The run was done: what was added to the output is the text of its job, the status is the job's, and the closing
-    // holds the job's log, which the replica has taken, each record once and in order.
-    ensures done { IsOfDone result.status → IsDone (F.content files.old) (map string_bytes words.now) O.told out.old out.new result.status result.closing }
-
-    // Each other status has its cause.
-    ensures output_failed { result.status ≡ 6 → OutputHasFailed (F.content files.old) (map string_bytes words.now) O.told out.old out.new result.closing }
-    ensures files_failed { result.status ≡ 5 → FilesHaveFailed (F.content files.old) (map string_bytes words.now) (F.faults files.old) (F.faults files.new) }
-    ensures not_built { result.status ≡ 10 → IsNotBuilt (F.content files.old) (map string_bytes words.now) }
-
-    // Where the files tell the content of a run, and neither they nor the output fail, that run is done.
-    ensures complete { (file : List ℕ) → IsToldRun (F.content files.old) (map string_bytes words.now) file
+    // Where the files tell what they are, and neither they nor the output fail, it comes to what the definitions say of the
+    // words and the files, or to want of memory.
+    ensures exact { (told : Contents) → F.content files.old ≡ Some told
         → ¬ Rose (F.faults files.old) (F.faults files.new) → ¬ Rose (O.told.faults out.old) (O.told.faults out.new)
-        → IsWhole O.told out.old out.new result.status file }
+        → IsRight O.told out.old out.new result told (job_in (map string_bytes words.now)) }
 
-    // What stands afterwards.
-    ensures refused { IsOfRefusal result.status → out.new ≡ out.old }
-    ensures unopened { IsOfRefusal result.status → result.closing ≡ None }
-    ensures told { TellsLine E.told err.old err.new (line_of result.status) }
-    ensures quiet { IsOfDone result.status → err.new ≡ err.old }
+    // Words alone decide on these two.
+    ensures words { (result.status ≡ 2) ↔ AreNoJob (map string_bytes words.now) }
+    ensures not_built { (result.status ≡ 10) ↔ AsksForMore (map string_bytes words.now) }
+
     ensures files { F.content files.new ≡ F.content files.old }
 {
     let answer = answer_words(alloc, words, files, out);
-    let status = answer.status();
-    tell_status(status, err);
-    Outcome {
-        status,
-        closing: answer.closing(),
-    }
+    end_answer(answer, err)
 }

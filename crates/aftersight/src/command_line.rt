@@ -1,68 +1,85 @@
 //! The words of the command line, and the texts that `main` answers by itself.
-ghost use Rattle.std.specs.Prelude.{◌≡◌, ◌⊎◌, ◌↔◌, IfOk, IfErr, MatchResult, drop, map, string_bytes};
-ghost use Rattle.std.specs.declared.io.ErrorKind.TheVariants.{OutOfMemory};
-ghost use Rattle.std.specs.IoError.{error_kind};
+ghost use Rattle.std.specs.Prelude.{◌≡◌, map, string_bytes};
 ghost use Rattle.std.specs.Option.{option_map};
-ghost use Rattle.std.specs.Vec.Iter.{into_iter_items};
 ghost use Rattle.aftersight.specs.Texts.{text_of};
 
 use std::alloc::{AllocError, Global};
-use std::env::Args;
+use std::env::FillError;
 use std::rt::Env;
-use std::{env, io};
 
-/// The words behind the program's name, or the status where they cannot be read: 9 for want of memory, and 10 for any
-/// other reason, such as a word that is no UTF-8 text, since no run that is built has such words.
-pub fn read_words<R: Env + AllocGlobal>(rt: &R) -> Result<Vec<String>, u8>
-    ensures { IfErr result (λ status. (status ≡ 9) ⊎ (status ≡ 10)) }
-{
-    words_of(rt.alloc(), env::args(rt))
+/// The words after the program's name.
+#[derive(Drop)]
+pub enum HostWords {
+    /// All of them are text.
+    Text(Vec<String>),
+    /// A word is not UTF-8 text; these stand before it.
+    Broken(Vec<String>),
 }
 
-// The words behind the first one that the host gives, or the status where it gives none or memory is wanting.
-fn words_of(alloc: Global, given: io::Result<Args>) -> Result<Vec<String>, u8>
-    ensures words { IfOk given (λ all. IfOk result (λ words. words.items ≡ drop 1 (into_iter_items all))) }
-    ensures memory { IfOk given (λ all. IfErr result (λ status. status ≡ 9)) }
-    ensures failed { IfErr given (λ error. MatchResult result (λ words. ⊥) (λ status. ((status ≡ 9) ⊎ (status ≡ 10)) × ((status ≡ 9) ↔ (error_kind error ≡ OutOfMemory)))) }
-{
-    let all = match given {
-        Ok(all) => all,
-        Err(error) => return Err(status_of(&error)),
-    };
-    match behind_first(alloc, all) {
-        Ok(words) => Ok(words),
-        Err(_) => Err(9),
+// How many bytes are asked for at first.
+const WORD_BYTES: usize = 256;
+
+/// The words that the host gives after the program's name. It fails for want of memory.
+pub fn read_words<R: Env + AllocGlobal>(rt: &R) -> Result<HostWords, AllocError> {
+    let mut words = Vec::new(rt.alloc());
+    for index in 1..usize::MAX {
+        let Some(bytes) = word_at(rt.alloc(), rt, index)? else {
+            break;
+        };
+        match String::from_utf8(bytes) {
+            Ok(word) => words.push(word)?,
+            Err(_) => return Ok(HostWords::Broken(words)),
+        }
     }
+    Ok(HostWords::Text(words))
 }
 
-// The status where the host gives no words.
-fn status_of(error: &io::Error) -> u8
-    ensures status { (result ≡ 9) ⊎ (result ≡ 10) }
-    ensures memory { (result ≡ 9) ↔ (error_kind error.now ≡ OutOfMemory) }
-{
-    match error.kind() {
-        io::ErrorKind::OutOfMemory => 9,
-        _ => 10,
+// The bytes of a word of the host; None where it gives none at this place.
+fn word_at<R: Env>(alloc: Global, rt: &R, index: usize) -> Result<Option<Vec<u8>>, AllocError> {
+    let mut bytes = Vec::new(alloc);
+    let mut size = WORD_BYTES;
+    for _doubled in 0..usize::BITS {
+        bytes.resize(size, 0u8)?;
+        match rt.arg(index, bytes.as_mut_slice()) {
+            Ok(length) => {
+                bytes.truncate(length);
+                return Ok(Some(bytes));
+            }
+            Err(FillError::NotPresent) => return Ok(None),
+            Err(FillError::TooLong) => {}
+        }
+        size = size.saturating_add(size);
     }
-}
-
-// All words but the first, in order.
-fn behind_first(alloc: Global, all: Args) -> Result<Vec<String>, AllocError>
-    ensures { IfOk result (λ words. words.items ≡ drop 1 (into_iter_items all)) }
-{
-    all.skip(1).collect(alloc)
+    Err(AllocError)
 }
 
 const HELP: &str = "\
 aftersight runs a RISC-V guest as if nobody watched, and analyses what it did.
 
-usage: aftersight run IMAGE SCRIPT --with cover
+usage: aftersight run IMAGE SCRIPT [OPTION VALUE]..
 
-IMAGE is a flat guest of at most 1048576 bytes, SCRIPT an empty file.
-The guest's output is written up to the first step that coverage refuses, then the report.
+  IMAGE            the guest: an ELF file for RV32, or the bytes of its RAM
+  SCRIPT           what comes to it from outside, and when; it may be empty
 
-status: 0 done, 1 a finding, 5 files failed, 6 output failed, 8 the step limit,
-9 no memory, 10 not built, 11 a step that is not built
+  --disk FILE      its disk; without it, it has none
+  --mode MODE      sync holds its output back until it is approved, best does not;
+                   sync without it
+  --with NAMES     the analyses, parted by commas; heap,taint,calls,cover,locks
+                   without it
+  --require NAMES  those that have to approve, or none; those of --with without it
+  --ram KIB        64 to 16384; 1024 without it
+  --steps COUNT    the most steps, 1 to 1000000000; 10000000 without it
+  --log COUNT      the records that the log holds at a time, a power of two from
+                   16 to 65536; 1024 without it
+  --threads COUNT  0 to 8, of which 0 is built; 0 without it
+  --turns LETTERS  whose turn it is, again and again: a for the recorder, digits for
+                   the replicas, r for the gate; a, each replica, r without it
+
+The guest's output is written up to the first step that a required analysis refuses,
+then the report. The commands record, analyze, show and load are not built.
+
+status: 0 done, 1 a finding, 2 wrong words, 3 image or disk refused, 4 script refused,
+5 files failed, 6 output failed, 8 the step limit, 9 no memory, 10 not built
 ";
 
 const VERSION: &str = "aftersight 0.1.0\n";

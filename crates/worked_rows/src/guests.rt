@@ -1,81 +1,54 @@
-//! Guests as flat files, and the texts that they come to.
+//! Guests, word by word.
 
-/// Writes H and powers off.
-pub const HELLO: [u8; 20] = [
-    0x37, 0x05, 0x00, 0x10, 0x93, 0x05, 0x80, 0x04, 0x23, 0x00, 0xb5, 0x00, 0x37, 0x06, 0x10, 0x10,
-    0x23, 0x20, 0x06, 0x00,
+/// It sends H.
+pub const HELLO: [u32; 5] = [
+    0x10000537, 0x04800593, 0x00b50023, 0x10100637, 0x00062023,
 ];
 
-/// The text of `HELLO`.
-pub const HELLO_TEXT: &str = "\
-H
-== aftersight report
-steps 5
-end power 0
-output 1 released 1
-records 2
-cover findings 0 first none
-cover pcs 5 ranges 1
-cover range 80000000 80000014
-";
-
-/// The text of `HELLO`, cut two bytes into a line of its report.
-pub const HELLO_CUT: &str = "\
-H
-== aftersight report
-steps 5
-end power 0
-output 1 released 1
-records 2
-cover findings 0 first none
-co";
-
-/// Writes H and an instruction behind its own file, executes it, and comes to a word that is none.
-pub const OUTGROWN: [u8; 28] = [
-    0x37, 0x05, 0x00, 0x10, 0x93, 0x05, 0x80, 0x04, 0x23, 0x00, 0xb5, 0x00, 0xb7, 0x02, 0x00, 0x80,
-    0x37, 0x03, 0xb5, 0x00, 0x13, 0x03, 0x33, 0x02, 0x23, 0xae, 0x62, 0x00,
+/// It announces that lock 9 guards the serial data register, and sends A before and twice after, without the lock.
+pub const UNGUARDED: [u32; 10] = [
+    0x10000537, 0x00100593, 0x00900613, 0x04100293, 0x00550023, 0x00702013, 0x00550023, 0x00550023,
+    0x10100637, 0x00062023,
 ];
 
-/// The text of `OUTGROWN`.
-pub const OUTGROWN_TEXT: &str = "\
-H
-== aftersight report
-steps 8
-end stuck
-output 2 released 1
-records 3
-cover findings 1 first 7
-cover pcs 8 ranges 1
-cover range 80000000 80000020
-cover outside at 7 pc 8000001c addr 8000001c
-";
-
-/// Writes a power store behind its own file, and executes it: it powers off with a finding.
-pub const OUTGROWN_POWER: [u8; 24] = [
-    0xb7, 0x02, 0x00, 0x80, 0x37, 0x26, 0x06, 0x00, 0x13, 0x06, 0x36, 0x02, 0x23, 0xac, 0xc2, 0x00,
-    0x37, 0x06, 0x10, 0x10, 0x13, 0x00, 0x00, 0x00,
+/// It waits for the timer's interrupt, whose handler ends the run.
+pub const TIMED: [u32; 18] = [
+    0x800002b7, 0x04028293, 0x30529073, 0x08000313, 0x30431073, 0x020043b7, 0x00500313, 0x0003a223,
+    0x0063a023, 0x30046073, 0x0000006f, 0, 0, 0, 0, 0, 0x10100637, 0x00062023,
 ];
 
-/// The text of `OUTGROWN_POWER`.
-pub const OUTGROWN_POWER_TEXT: &str = "
-== aftersight report
-steps 7
-end power 0
-output 0 released 0
-records 1
-cover findings 1 first 6
-cover pcs 7 ranges 1
-cover range 80000000 8000001c
-cover outside at 6 pc 80000018 addr 80000018
-";
+/// It masks its interrupts, and sends what mip shows at step 3.
+pub const MASKING: [u32; 8] = [
+    0x100002b7, 0x00100313, 0x0062a423, 0x344023f3, 0x0053d393, 0x00728023, 0x10100637, 0x00062023,
+];
 
-/// The text of an empty file.
-pub const EMPTY_TEXT: &str = "
-== aftersight report
-steps 0
-end stuck
-output 0 released 0
-records 1
-cover findings 0 first none
-cover pcs 0 ranges 0
-";
+/// It reads sector 0 to 80000200, and sends its first byte.
+pub const READING: [u32; 13] = [
+    0x100012b7, 0x80000337, 0x20030313, 0x0062a223, 0x00100393, 0x0072a423, 0x00c2ae03, 0xfe7e0ee3,
+    0x00032e83, 0x100002b7, 0x01d28023, 0x10100637, 0x00062023,
+];
+
+/// It takes a byte by way of mscratch into the address of a jump.
+pub const JUMPING: [u32; 11] = [
+    0x100002b7, 0x0002c303, 0x34031073, 0x340023f3, 0xf9f38393, 0x00000e17, 0x01c383b3, 0x01038067,
+    0, 0x10100637, 0x00062023,
+];
+
+/// The same, but the byte is replaced by one that does not depend on it.
+pub const JUMPING_CLEAN: [u32; 11] = [
+    0x100002b7, 0x0002c303, 0x34031073, 0x340023f3, 0x0073c3b3, 0x00000e17, 0x01c383b3, 0x01038067,
+    0, 0x10100637, 0x00062023,
+];
+
+/// It sends 4,300 dots.
+pub const DOTS: [u32; 9] = [
+    0x100002b7, 0x00001337, 0x0cc30313, 0x02e00393, 0x00728023, 0xfff30313, 0xfe031ce3, 0x10100637,
+    0x00062023,
+];
+
+/// It announces a block, sends a line back through it, and frees it.
+pub const ECHO: [u32; 18] = [
+    0x100002b7, 0x80001537, 0x01000593, 0x00102013, 0x00050313, 0x0042a383, 0x0013f393, 0xfe038ce3,
+    0x0002ce03, 0x01c30023, 0x00034e83, 0x01d28023, 0x00130313, 0x00a00f13, 0xfdee9ee3, 0x00202013,
+    0x10100637, 0x00062023,
+];

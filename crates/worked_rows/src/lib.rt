@@ -1,7 +1,17 @@
-//! The worked rows: whole runs of the program over files and sinks in memory, with answers worked out by hand.
+//! Whole runs of the program over files and sinks in memory, with answers worked out by hand.
 #![tactic(auto)]
 
 #[cfg(test)]
 mod guests;
 #[cfg(test)]
-mod tests;
+mod headed;
+#[cfg(test)]
+mod program;
+#[cfg(test)]
+mod refusals;
+#[cfg(test)]
+mod runs;
+#[cfg(test)]
+mod sinks;
+#[cfg(test)]
+mod texts;

@@ -1,0 +1,39 @@
+-- Files that tell what they are give one answer.
+use Rattle.std.proofs.Common.{◌≡◌, ℕ, ◌<◌, ◌≤◌, List, [], Option, Some, None, Result, Ok, Err, refl, sym, ap, subst, ◌∙◌, arith, inl, inr}
+use Rattle.std.specs.Prelude.{IsSome}
+use Rattle.after_edge.specs.Fault.{Rose}
+use Rattle.after_edge.specs.Files.{Contents}
+use Rattle.run_inputs.specs.declared.fault.InputFault.{InputFault}
+use Rattle.run_inputs.specs.declared.fault.InputFault.TheVariants as fault
+use Rattle.run_inputs.specs.Faults.{HasCause}
+use Rattle.run_inputs.specs.Files.{Names, AreFound, IsDiskFound, Comes}
+use Rattle.run_inputs.specs.Given.{Found, Given, Refusal, Absent, ImageTooLong, ScriptTooLong, DiskTooLong, BadImage, BadScript, inputs_in}
+use Rattle.refusals.specs.Status.{input_status}
+use Rattle.after_cli.specs.Exact.{disk_in, found_in, refused_status}
+
+module _ (told : Contents) (names : Names) where
+  one_disk : (disk found : Option (List ℕ)) → IsDiskFound (Some told) disk found → disk_in told disk ≡ found
+  one_disk None found is = sym is
+  one_disk (Some name) found is = is told refl
+
+  one_found : (found : Found) → AreFound (Some told) names found → found_in told names ≡ found
+  one_found found are = rw (are.image told refl, are.script told refl, one_disk names.disk found.disk are.disk) refl
+
+  -- what a reader gives is what it gives of what stands there
+  pub one_answer : {Y : Type 0} (read : Found → Result Y Refusal) (answer : Result Y Refusal) → Comes read (Some told) names answer → read (found_in told names) ≡ answer
+  one_answer read answer comes = ap read (one_found comes.found comes.are) ∙ comes.gives
+
+  -- a fault, where the count stays, is that of the definition, or want of memory
+  pub data Refuses {Y : Type 0} (read : Found → Result Y Refusal) (status : ℕ) : Type 0 where
+    For : (refusal : Refusal) → read (found_in told names) ≡ Err refusal → status ≡ refused_status refusal → Refuses read status
+    NoMemory : status ≡ 9 → Refuses read status
+
+  pub one_fault : {Y : Type 0} (read : Found → Result Y Refusal) (before now : ℕ) (e : InputFault) → (Rose before now → ⊥) → HasCause read (Some told) names before now e → Refuses read (input_status e)
+  one_fault read before now fault.Files stays (inl rose) = absurd (stays rose)
+  one_fault read before now fault.Files stays (inr (some, comes)) = For Absent (one_answer read (Err Absent) comes) refl
+  one_fault read before now fault.ImageTooLong stays comes = For ImageTooLong (one_answer read (Err ImageTooLong) comes) refl
+  one_fault read before now fault.ScriptTooLong stays comes = For ScriptTooLong (one_answer read (Err ScriptTooLong) comes) refl
+  one_fault read before now fault.DiskTooLong stays comes = For DiskTooLong (one_answer read (Err DiskTooLong) comes) refl
+  one_fault read before now (fault.Image e) stays (k, is, comes) = For (BadImage k) (one_answer read (Err (BadImage k)) comes) refl
+  one_fault read before now (fault.Script e) stays (k, is, comes) = For (BadScript k) (one_answer read (Err (BadScript k)) comes) refl
+  one_fault read before now fault.NoMemory stays cause = NoMemory refl

@@ -1,0 +1,4 @@
+pub mod FoundLaws
+pub mod BytesLaws
+pub mod JudgeLaws
+pub mod ScriptPlays

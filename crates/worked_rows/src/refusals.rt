@@ -1,0 +1,134 @@
+//! Words, files and scripts that are refused, each by its line.
+use crate::guests;
+use crate::program::{Wanted, expect, files_of, flat, words_of};
+use std::alloc::Global;
+use std::process::Abort;
+use std::test::Fail;
+
+fn refused(status: u8, line: &str) -> Wanted<'_> {
+    Wanted {
+        status,
+        text: &[],
+        line,
+    }
+}
+
+#[test]
+fn wrong_words_are_named(rt: HostRuntime) -> Result<(), Fail> {
+    let alloc = rt.alloc();
+    let rows: [(&str, u8, &str); 20] = [
+        ("", 2, "words: missing\n"),
+        ("run a", 2, "words: missing\n"),
+        ("frob", 2, "words: word 1\n"),
+        ("--help run", 2, "words: word 1\n"),
+        ("run a b --log 17", 2, "words: word 5\n"),
+        ("run a b --steps 05", 2, "words: word 5\n"),
+        ("run a b --log=32", 2, "words: word 4\n"),
+        ("run a b --steps 5 --steps 6", 2, "words: word 6\n"),
+        ("run a b --require heap --with taint", 2, "words: word 5\n"),
+        ("run a b --with heap,taint --turns a0r", 2, "words: word 7\n"),
+        ("run a b --with", 2, "words: missing\n"),
+        ("run a b c", 2, "words: word 4\n"),
+        ("run a -b", 2, "words: word 3\n"),
+        ("run a b --mode best --require heap", 2, "words: word 7\n"),
+        ("run a b --threads 1 --turns a0r", 2, "words: word 7\n"),
+        ("load 4294967296 1", 2, "words: word 2\n"),
+        ("record a b", 2, "words: missing\n"),
+        // words that are a job, of a kind that is not built
+        ("record a b c", 10, "not built\n"),
+        ("show a", 10, "not built\n"),
+        ("run a b --threads 1", 10, "not built\n"),
+    ];
+    for (words, status, line) in rows {
+        let mut files = files_of(alloc, None, None, None)?;
+        let words = words_of(alloc, words)?;
+        expect(&rt, alloc, &mut files, &words, refused(status, line))?;
+    }
+    Ok(())
+}
+
+// Calls the program on these files.
+fn expect_files(
+    rt: &impl Abort,
+    alloc: Global,
+    given: (Option<&[u8]>, Option<&[u8]>, Option<&[u8]>),
+    wanted: Wanted<'_>,
+) -> Result<(), Fail> {
+    let (image, script, disk) = given;
+    let mut files = files_of(alloc, image, script, disk)?;
+    let words = words_of(alloc, "run guest.bin guest.txt --disk disk.bin --ram 64")?;
+    expect(rt, alloc, &mut files, &words, wanted)?;
+    Ok(())
+}
+
+#[test]
+fn files_are_refused_in_their_order(rt: HostRuntime) -> Result<(), Fail> {
+    let alloc = rt.alloc();
+    let flat = flat(alloc, &guests::HELLO)?;
+    let good: Option<&[u8]> = Some(&flat);
+    let outside = vec![in alloc; 0u8; 65_537]?;
+    let short: [u8; 5] = [0x7f, b'E', b'L', b'F', 1];
+    let empty: Option<&[u8]> = Some(&[]);
+    let bad: Option<&[u8]> = Some(b"?");
+    let rows: [(Option<&[u8]>, Option<&[u8]>, Option<&[u8]>, u8, &str); 9] = [
+        (None, empty, empty, 5, "files: failed\n"),
+        (good, None, empty, 5, "files: failed\n"),
+        (good, empty, None, 5, "files: failed\n"),
+        (Some(&short), bad, None, 5, "files: failed\n"),
+        (Some(&short), None, empty, 5, "files: failed\n"),
+        (Some(&short), bad, empty, 3, "image: short need 52\n"),
+        (Some(&outside), bad, empty, 3, "image: segment 0 outside\n"),
+        (good, bad, empty, 4, "script: line 1 bad\n"),
+        (good, bad, None, 5, "files: failed\n"),
+    ];
+    for (image, script, disk, status, line) in rows {
+        expect_files(&rt, alloc, (image, script, disk), refused(status, line))?;
+    }
+    Ok(())
+}
+
+#[test]
+fn files_that_are_too_long_are_refused(rt: HostRuntime) -> Result<(), Fail> {
+    let alloc = rt.alloc();
+    let flat = flat(alloc, &guests::HELLO)?;
+    let long = vec![in alloc; 10u8; 33_554_433]?;
+    assert_eq!(rt; long.len(), 33_554_433);
+    let image = &long[..33_554_432];
+    let script = &long[..1_048_577];
+    let disk = &long[..16_777_217];
+    let empty: Option<&[u8]> = Some(&[]);
+    let rows: [(Option<&[u8]>, Option<&[u8]>, Option<&[u8]>, u8, &str); 5] = [
+        (Some(&long), None, empty, 3, "image: too long\n"),
+        (Some(image), empty, empty, 3, "image: segment 0 outside\n"),
+        (Some(&flat), Some(script), None, 4, "script: too long\n"),
+        (Some(&flat), Some(b"?"), Some(disk), 3, "disk: too long\n"),
+        (Some(image), Some(&script[1..]), Some(&disk[1..]), 3, "image: segment 0 outside\n"),
+    ];
+    for (image, script, disk, status, line) in rows {
+        expect_files(&rt, alloc, (image, script, disk), refused(status, line))?;
+    }
+    Ok(())
+}
+
+#[test]
+fn broken_scripts_are_named_by_their_line(rt: HostRuntime) -> Result<(), Fail> {
+    let alloc = rt.alloc();
+    let image = flat(alloc, &guests::HELLO)?;
+    let mut many = String::new(alloc);
+    for _line in 0..257u32 {
+        many.push_str("sectors 0 0\n")?;
+    }
+    let rows: [(&str, &str); 6] = [
+        ("at 5 tick 1\nat 4 tick 1\n", "script: line 2 falling\n"),
+        ("at 05 tick 1\n", "script: line 1 number\n"),
+        ("clock 0\n", "script: line 1 number\n"),
+        ("at 5 serial 6\n", "script: line 1 bad\n"),
+        ("at 5 serial 6A\n", "script: line 1 bad\n"),
+        (&many, "script: line 257 too many\n"),
+    ];
+    for (script, line) in rows {
+        let script: Option<&[u8]> = Some(script.as_bytes());
+        expect_files(&rt, alloc, (Some(&image), script, Some(&[])), refused(4, line))?;
+    }
+    Ok(())
+}
