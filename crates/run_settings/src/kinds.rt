@@ -1,7 +1,7 @@
 //! Lists of kinds of analyses.
 ghost use Rattle.std.specs.Prelude.{◌≡◌, ◌<◌, ◌≤◌, ◌↔◌, IsTrue, List, [], ◌∷◌, ◌++◌, length, slice_get, slice_index_or, Some};
 ghost use Rattle.std.specs.List.{Contains};
-ghost use Rattle.run_settings.specs.Kinds.{EachOnce};
+ghost use Rattle.run_settings.specs.Kinds.{EachOnce, has_kind};
 
 use run_events::Kind;
 use std::marker::Model;
@@ -76,8 +76,10 @@ impl Kinds {
     }
 
     /// Whether a kind is among them.
+    #[tactic(auto, using(crate::proofs::KindLaws::tells_kind))]
     pub fn contains(&self, kind: Kind) -> bool
-        ensures { IsTrue result ↔ Contains self.now kind }
+        ensures test { IsTrue result ↔ Contains self.now kind }
+        ensures value { result ≡ has_kind self.now kind }
     {
         self.places[..self.used as usize].contains(&kind)
     }

@@ -3,6 +3,8 @@
 
 mod kinds;
 mod letter;
+mod turns;
 
 pub use kinds::Kinds;
 pub use letter::Letter;
+pub use turns::Turns;

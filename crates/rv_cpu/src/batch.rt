@@ -1,4 +1,5 @@
 //! Plain steps without events: the pc is kept beside the hart, and the counters rise once, at the end.
+ghost use Rattle.memory_map.specs.declared.TheConstants.{MOST_STEPS};
 ghost use Rattle.std.specs.Prelude.{◌≡◌, ℕ, ◌+◌, ◌<◌, ◌≤◌, None, IsTrue, false, if◌then◌else◌};
 ghost use Rattle.rv_decode.specs.Valid.{IsRegister, IsValid};
 ghost use Rattle.hart_model.specs.Effect as model;
@@ -162,7 +163,7 @@ impl Engine {
 
     // Ends so many plain steps: the pc and the counters.
     fn catch_up(&mut self, pc: u32, count: u32)
-        requires { self.old.step + count ≤ 1000000000 }
+        requires { self.old.step + count ≤ MOST_STEPS }
         ensures { self.new ≡ caught_up count (from self.old pc) }
     {
         self.pc = pc;
@@ -173,7 +174,7 @@ impl Engine {
     /// Does the next steps with these interrupt lines as long as they are plain ones, but at most so many, and answers
     /// how many it did.
     pub fn run_plain(&mut self, lines: u8, at_most: u32) -> u32
-        requires { self.old.step + at_most ≤ 1000000000 }
+        requires { self.old.step + at_most ≤ MOST_STEPS }
         ensures few { result ≤ at_most }
         ensures plain { IsTrue (are_plain lines result self.old) }
         ensures state { plain_after lines result self.old ≡ self.new }

@@ -1,4 +1,5 @@
 //! One step.
+ghost use Rattle.memory_map.specs.declared.TheConstants.{MOST_STEPS};
 ghost use Rattle.std.specs.Prelude.{◌≡◌, ℕ, ◌+◌, ◌<◌, true, false, None, Some, IsTrue};
 ghost use Rattle.rv_decode.specs.Valid.{IsValid};
 ghost use Rattle.hart_model.specs.Machine.{holds_word};
@@ -19,7 +20,7 @@ impl Engine {
     // Ends a step whose instruction was executed: its event, the next pc, and the counters.
     #[inline(always)]
     fn end(&mut self, word: u32, told: Told, value: u32, next: u32, access: Access) -> Event
-        requires { self.old.step < 1000000000 }
+        requires { self.old.step < MOST_STEPS }
         ensures { ended told word (Goes value next access) self.old ≡ Some (result, self.new) }
     {
         let event = Event::Exec {
@@ -48,7 +49,7 @@ impl Engine {
         event: &mut Event,
     ) -> bool
         requires valid { IsValid instr }
-        requires room { self.old.step < 1000000000 }
+        requires room { self.old.step < MOST_STEPS }
         ensures plain { result ≡ is_plain_decoded self.old lines word size (Some instr) }
         ensures step { IsTrue result →
             step_by self.old word (outcome self.old lines None word size instr)
@@ -74,7 +75,7 @@ impl Engine {
     #[tactic(auto, unfolding(hart_model::specs::Step::cpu, crate::specs::Plain::is_plain))]
     #[inline(always)]
     pub fn try_step(&mut self, lines: u8, event: &mut Event) -> bool
-        requires { self.old.step < 1000000000 }
+        requires { self.old.step < MOST_STEPS }
         ensures plain { result ≡ is_plain self.old lines }
         ensures step { IsTrue result → cpu self.old lines None ≡ (event.new, self.new) }
         ensures same { result ≡ false → self.new ≡ self.old }
@@ -91,7 +92,7 @@ impl Engine {
 
     // Takes an exception at the instruction of this word. (Privileged manual, 3.1.7.)
     fn trap(&mut self, word: u32, cause: u32, value: u32) -> Event
-        requires { self.old.step < 1000000000 }
+        requires { self.old.step < MOST_STEPS }
         ensures { trapped self.old word cause value ≡ (result, self.new) }
     {
         let (step, pc) = (self.steps, self.pc);
@@ -111,7 +112,7 @@ impl Engine {
 
     // Takes an interrupt in place of the next instruction. (Privileged manual, 3.1.9.)
     fn interrupt(&mut self, cause: u32) -> Event
-        requires { self.old.step < 1000000000 }
+        requires { self.old.step < MOST_STEPS }
         ensures { interrupted self.old cause ≡ (result, self.new) }
     {
         let (step, pc) = (self.steps, self.pc);
@@ -137,7 +138,7 @@ impl Engine {
         instr: Instr,
     ) -> Event
         requires valid { IsValid instr }
-        requires room { self.old.step < 1000000000 }
+        requires room { self.old.step < MOST_STEPS }
         ensures { step_by self.old word (outcome self.old lines supplied word size instr)
             ≡ (result, self.new) }
     {
@@ -156,7 +157,7 @@ impl Engine {
     /// Does the next step, with these interrupt lines and what a device register supplied, and answers what it shows.
     #[tactic(auto, unfolding(hart_model::specs::Step::cpu, hart_model::specs::Step::step_by))]
     pub fn step(&mut self, lines: u8, supplied: Option<Supplied>) -> Event
-        requires { self.old.step < 1000000000 }
+        requires { self.old.step < MOST_STEPS }
         ensures { cpu self.old lines supplied ≡ (result, self.new) }
     {
         if let Some(cause) = self.csrs.pending(lines) {

@@ -31,7 +31,10 @@ impl Timer {
 
     /// Goes on to this step.
     pub fn advance(&mut self, step: u32)
-        ensures times { (clock ticks offset : ℕ) → 1 ≤ clock → Times clock step ticks offset self.old → Times clock (step + 1) ticks offset self.new }
+        ensures times { (clock ticks offset : ℕ)
+            → 1 ≤ clock
+            → Times clock step ticks offset self.old
+            → Times clock (step + 1) ticks offset self.new }
         ensures compare { self.new.compare ≡ self.old.compare }
     {
         if u64::from(step) == self.rise {
@@ -77,7 +80,10 @@ impl Timer {
 
     /// Rises by so many ticks.
     pub fn pulse(&mut self, ticks: u64)
-        ensures times { (clock begun before after offset : ℕ) → (ticks + before) % 2 ^ 64 ≡ after % 2 ^ 64 → Times clock begun before offset self.old → Times clock begun after offset self.new }
+        ensures times { (clock begun before after offset : ℕ)
+            → (ticks + before) % 2 ^ 64 ≡ after % 2 ^ 64
+            → Times clock begun before offset self.old
+            → Times clock begun after offset self.new }
         ensures compare { self.new.compare ≡ self.old.compare }
         ensures rise { self.new.rise ≡ self.old.rise }
     {

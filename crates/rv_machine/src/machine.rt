@@ -1,4 +1,5 @@
 //! The recorder.
+ghost use Rattle.memory_map.specs.declared.TheConstants.{LEAST_RAM_KIB, MOST_RAM_KIB, MOST_STEPS};
 ghost use Rattle.std.specs.Prelude.{◌≡◌, ◌+◌, ◌%◌, ◌*◌, ◌^◌, ◌<◌, ◌≤◌, ℕ, false, true, List, IfOk, IsTrue, length, map, vec_len};
 ghost use Rattle.any_machine.specs.Log.{items};
 ghost use Rattle.any_machine.specs.Machine.{is_load};
@@ -39,7 +40,7 @@ pub struct Machine {
     phase: Phase,
     ghost begun: { steps_begun board ≡ cpu.step + inside phase },
     ghost drained: { words_due board ≤ sends phase },
-    ghost room: { cpu.step + left + inside phase ≤ 1000000000 },
+    ghost room: { cpu.step + left + inside phase ≤ MOST_STEPS },
     ghost given: { awaits phase (is_load (needs cpu lines)) ≡ true },
     ghost size: { length cpu.ram ≤ 2 ^ 24 },
 }
@@ -47,8 +48,8 @@ pub struct Machine {
 // The hart of a guest before its first step, over the RAM that its image fills.
 #[tactic(auto, unfolding(machine_model::specs::Image::ram_at_start))]
 fn start(alloc: Global, image: &Image, ram_kib: u32) -> Result<Cpu, NoMemory>
-    requires least { 64 ≤ ram_kib }
-    requires most { ram_kib ≤ 16384 }
+    requires least { LEAST_RAM_KIB ≤ ram_kib }
+    requires most { ram_kib ≤ MOST_RAM_KIB }
     requires loadable { IsLoadable (1024 * ram_kib) image.now.segments }
     requires aligned { image.now.entry % grain ≡ 0 }
     ensures start { IfOk result (λ cpu. cpu ≡ started image.now ram_kib) }
@@ -73,9 +74,9 @@ impl Machine {
         ram_kib: u32,
         limit: u32,
     ) -> Result<Machine, NoMemory>
-        requires least { 64 ≤ ram_kib }
-        requires most { ram_kib ≤ 16384 }
-        requires limit { limit ≤ 1000000000 }
+        requires least { LEAST_RAM_KIB ≤ ram_kib }
+        requires most { ram_kib ≤ MOST_RAM_KIB }
+        requires limit { limit ≤ MOST_STEPS }
         requires loadable { IsLoadable (1024 * ram_kib) image.now.segments }
         requires aligned { image.now.entry % grain ≡ 0 }
         requires script { IsPlayable script }

@@ -1,0 +1,248 @@
+//! Commands, made of the words that were read.
+ghost use Rattle.std.specs.Prelude.{◌≡◌, [], length, option_copied, option_map};
+ghost use Rattle.std.specs.List.{list_all};
+ghost use Rattle.run_settings.specs.Kinds.{has_kind};
+ghost use Rattle.command_words.specs.Drafts.{held, plain_held, seen};
+ghost use Rattle.command_words.specs.Values.{kinds};
+ghost use Rattle.command_words.specs.Says.{Gives, analyze_said, load_said, record_said};
+ghost use Rattle.command_words.specs.Table.{plain_count};
+ghost use Rattle.command_words.specs.Jobs.{chosen, crossed_required, analyze_job, crossed_turns, disk, is_best, job_of, load_job, log, named_required, number_or, ram, record_job, required, run_of, steps, threads, turns, word_if};
+
+use crate::command::{AnalyzeWords, Command, LoadWords, RecordWords, RunWords, ShowWords};
+use crate::draft::{Draft, Given};
+use crate::fault::WordsFault;
+use crate::number::number_in;
+use crate::table::{CommandName, Setting};
+use crate::value::{best_in, kinds_in, required_in, size_in, turns_in};
+use run_events::Kind;
+use run_settings::{Kinds, Turns};
+
+// All analyses.
+fn all_kinds() -> Kinds
+    ensures { result ≡ kinds }
+{
+    let mut kinds = Kinds::new();
+    kinds.add(Kind::Heap);
+    kinds.add(Kind::Taint);
+    kinds.add(Kind::Calls);
+    kinds.add(Kind::Cover);
+    kinds.add(Kind::Locks);
+    kinds
+}
+
+// Whether the mode is best effort.
+fn is_best(draft: &Draft<'_>) -> bool
+    ensures { result ≡ is_best (held draft.now) }
+{
+    match draft.value(Setting::Mode) {
+        Some(given) => best_in(given.text).unwrap_or(false),
+        None => false,
+    }
+}
+
+fn chosen(draft: &Draft<'_>) -> Kinds
+    ensures { result ≡ chosen (held draft.now) }
+{
+    match draft.value(Setting::With) {
+        Some(given) => kinds_in(given.text).unwrap_or(all_kinds()),
+        None => all_kinds(),
+    }
+}
+
+// The analyses that are named as required, or all.
+fn named_required(draft: &Draft<'_>) -> Kinds
+    ensures { result ≡ named_required (held draft.now) }
+{
+    match draft.value(Setting::Require) {
+        Some(given) => required_in(given.text).unwrap_or(chosen(draft)),
+        None => chosen(draft),
+    }
+}
+
+fn required(draft: &Draft<'_>) -> Kinds
+    ensures { result ≡ required (held draft.now) }
+{
+    if is_best(draft) {
+        Kinds::new()
+    } else {
+        named_required(draft)
+    }
+}
+
+// The number that a value gives, or what stands where there is none.
+fn number_or(given: Option<Given<'_>>, least: u32, most: u32, default: u32) -> u32
+    ensures { result ≡ number_or default least most (option_map seen given.entry) }
+{
+    match given {
+        Some(given) => number_in(given.text, least, most).unwrap_or(default),
+        None => default,
+    }
+}
+
+fn threads(draft: &Draft<'_>) -> u32
+    ensures { result ≡ threads (held draft.now) }
+{
+    number_or(draft.value(Setting::Threads), 0, 8, 0)
+}
+
+fn ram(draft: &Draft<'_>) -> u32
+    ensures { result ≡ ram (held draft.now) }
+{
+    number_or(draft.value(Setting::Ram), 64, 16384, 1024)
+}
+
+fn steps(draft: &Draft<'_>) -> u32
+    ensures { result ≡ steps (held draft.now) }
+{
+    number_or(draft.value(Setting::Steps), 1, 1_000_000_000, 10_000_000)
+}
+
+fn log(draft: &Draft<'_>) -> u32
+    ensures { result ≡ log (held draft.now) }
+{
+    match draft.value(Setting::Log) {
+        Some(given) => size_in(given.text).unwrap_or(1024),
+        None => 1024,
+    }
+}
+
+fn disk<'a>(draft: &Draft<'a>) -> Option<&'a str>
+    ensures { option_copied result ≡ disk (held draft.now) }
+{
+    match draft.value(Setting::Disk) {
+        Some(given) => Some(given.text),
+        None => None,
+    }
+}
+
+fn turns(draft: &Draft<'_>) -> Turns
+    ensures { result ≡ turns (held draft.now) }
+{
+    let plain = Turns::plain(chosen(draft).len());
+    match draft.value(Setting::Turns) {
+        Some(given) => turns_in(given.text).unwrap_or(plain),
+        None => plain,
+    }
+}
+
+// Whether required analyses are named in best-effort mode, or one of them is not chosen.
+#[tactic(auto, unfolding(crate::specs::Jobs::crossed_required))]
+fn crossed_required(draft: &Draft<'_>) -> bool
+    ensures { result ≡ crossed_required (held draft.now) }
+{
+    is_best(draft) || !are_among(&named_required(draft), &chosen(draft))
+}
+
+// Whether each kind of the first list is in the second.
+fn are_among(kinds: &Kinds, others: &Kinds) -> bool
+    ensures { result ≡ list_all (has_kind others.now) kinds.now }
+{
+    for index in 0..kinds.len() {
+        if !others.contains(kinds.get(index)) {
+            return false;
+        }
+    }
+    true
+}
+
+// Whether turns are given for threads, or they are no pattern for the chosen analyses.
+#[tactic(auto, unfolding(crate::specs::Jobs::crossed_turns))]
+fn crossed_turns(draft: &Draft<'_>) -> bool
+    ensures { result ≡ crossed_turns (held draft.now) }
+{
+    threads(draft) > 0 || !turns(draft).is_pattern(chosen(draft).len())
+}
+
+// The number of an option's value, where it stands and does not go with the others.
+fn word_if(crossed: bool, given: Option<Given<'_>>) -> Option<u32>
+    ensures { result ≡ word_if crossed (option_map seen given.entry) }
+{
+    match given {
+        Some(given) if crossed => Some(given.number),
+        _ => None,
+    }
+}
+
+#[tactic(auto, unfolding(crate::specs::Jobs::run_of))]
+fn run_of<'a>(draft: &Draft<'a>) -> Result<Command<'a>, WordsFault>
+    requires { length (plain_held draft.now) ≡ 2 }
+    ensures { Gives result (run_of (held draft.now) (plain_held draft.now)) }
+{
+    match word_if(crossed_required(draft), draft.value(Setting::Require)) {
+        Some(number) => return Err(WordsFault::Word { number }),
+        None => {}
+    }
+    match word_if(crossed_turns(draft), draft.value(Setting::Turns)) {
+        Some(number) => return Err(WordsFault::Word { number }),
+        None => {}
+    }
+    Ok(Command::Run(RunWords {
+        image: draft.plain_word(0),
+        script: draft.plain_word(1),
+        disk: disk(draft),
+        ram_kib: ram(draft),
+        limit: steps(draft),
+        log: log(draft),
+        kinds: chosen(draft),
+        required: required(draft),
+        threads: threads(draft),
+        turns: turns(draft),
+    }))
+}
+
+fn record_of<'a>(draft: &Draft<'a>) -> RecordWords<'a>
+    requires { length (plain_held draft.now) ≡ 3 }
+    ensures { record_said result ≡ record_job (held draft.now) (plain_held draft.now) }
+{
+    RecordWords {
+        image: draft.plain_word(0),
+        script: draft.plain_word(1),
+        log_file: draft.plain_word(2),
+        disk: disk(draft),
+        ram_kib: ram(draft),
+        limit: steps(draft),
+    }
+}
+
+fn analyze_of<'a>(draft: &Draft<'a>) -> AnalyzeWords<'a>
+    requires { length (plain_held draft.now) ≡ 2 }
+    ensures { analyze_said result ≡ analyze_job (held draft.now) (plain_held draft.now) }
+{
+    AnalyzeWords {
+        image: draft.plain_word(0),
+        log_file: draft.plain_word(1),
+        kinds: chosen(draft),
+    }
+}
+
+fn load_of(draft: &Draft<'_>) -> LoadWords
+    requires { length (plain_held draft.now) ≡ 2 }
+    ensures { load_said result ≡ load_job (held draft.now) (plain_held draft.now) }
+{
+    LoadWords {
+        seed: number_in(draft.plain_word(0), 0, u32::MAX).unwrap_or(0),
+        size: number_in(draft.plain_word(1), 1, 100_000).unwrap_or(1),
+        log: log(draft),
+        threads: threads(draft),
+    }
+}
+
+// The command, where all its plain words stand.
+#[tactic(auto, unfolding(crate::specs::Jobs::job_of))]
+pub(crate) fn command_of<'a>(
+    command: CommandName,
+    draft: &Draft<'a>,
+) -> Result<Command<'a>, WordsFault>
+    requires { length (plain_held draft.now) ≡ plain_count command }
+    ensures { Gives result (job_of command (held draft.now) (plain_held draft.now)) }
+{
+    match command {
+        CommandName::Run => run_of(draft),
+        CommandName::Record => Ok(Command::Record(record_of(draft))),
+        CommandName::Analyze => Ok(Command::Analyze(analyze_of(draft))),
+        CommandName::Show => Ok(Command::Show(ShowWords {
+            log_file: draft.plain_word(0),
+        })),
+        CommandName::Load => Ok(Command::Load(load_of(draft))),
+    }
+}
