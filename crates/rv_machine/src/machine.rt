@@ -81,7 +81,8 @@ impl Machine {
         requires aligned { image.now.entry % grain ≡ 0 }
         requires script { IsPlayable script }
         requires disk { vec_len disk ≤ 2 ^ 24 }
-        ensures { IfOk result (λ machine. ToCome machine (items (run image.now script disk.items ram_kib limit))) }
+        ensures { IfOk result (λ machine. ToCome machine
+            (items (run image.now script disk.items ram_kib limit))) }
     {
         let cpu = start(alloc, image, ram_kib)?;
         let board = Board::new(alloc, script, disk)?;
@@ -97,7 +98,8 @@ impl Machine {
     /// Runs on to the next record and no further: at most 256 steps. `byte` is the output of the step that a record says is
     /// done. `Ended` comes exactly after the record of the end, and then at each later call. It takes no memory.
     pub fn advance(&mut self) -> Advance
-        ensures next { (items : List Item) → ToCome self.old items → Advances recording items self.new result }
+        ensures next { (items : List Item) → ToCome self.old items
+            → Advances recording items self.new result }
         ensures falls { Falls recording self.old self.new result }
         ensures few { self.new.cpu.step ≤ self.old.cpu.step + 256 }
     {
@@ -284,7 +286,9 @@ fn store_access(board: &mut Board, access: &Access, ram: &Ram)
     requires begun { 1 ≤ steps_begun board.old }
     requires at { AtRegister access.now }
     requires ram { length ram.now ≤ 2 ^ 24 }
-    ensures stands { (script : Outside) (step : ℕ) (words : List Written) (state : BoardState) → Stands script (step + 1) words state board.old → Stands script (step + 1) words (after_access script step ram.now state access.now) board.new }
+    ensures stands { (script : Outside) (step : ℕ) (words : List Written) (state : BoardState)
+        → Stands script (step + 1) words state board.old
+        → Stands script (step + 1) words (after_access script step ram.now state access.now) board.new }
     ensures begun { steps_begun board.new ≡ steps_begun board.old }
     ensures left { words_due board.new ≡ words_due board.old }
 {
@@ -308,7 +312,9 @@ fn store_outside(board: &mut Board, event: &Event, ram: &Ram)
     requires begun { 1 ≤ steps_begun board.old }
     requires at { IsAtRegister event.now }
     requires ram { length ram.now ≤ 2 ^ 24 }
-    ensures stands { (script : Outside) (step : ℕ) (words : List Written) (state : BoardState) → Stands script (step + 1) words state board.old → Stands script (step + 1) words (after_event script step ram.now state event.now) board.new }
+    ensures stands { (script : Outside) (step : ℕ) (words : List Written) (state : BoardState)
+        → Stands script (step + 1) words state board.old
+        → Stands script (step + 1) words (after_event script step ram.now state event.now) board.new }
     ensures begun { steps_begun board.new ≡ steps_begun board.old }
     ensures left { words_due board.new ≡ words_due board.old }
 {
