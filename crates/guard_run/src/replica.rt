@@ -1,18 +1,24 @@
 //! A replica: an analysis of a run, and the replay that shows it what the records say.
 ghost use Rattle.memory_map.specs.declared.TheConstants.{LEAST_RAM_KIB, MOST_RAM_KIB};
-ghost use Rattle.std.specs.Prelude.{◌≡◌, ◌*◌, ◌%◌, ◌≤◌, IfOk};
-ghost use Rattle.analysis_set.specs.Analysis.{kib_of};
+ghost use Rattle.std.specs.Prelude.{◌≡◌, ◌*◌, ◌%◌, ◌≤◌, ◌++◌, ◌∷◌, IfOk, List};
+ghost use Rattle.any_machine.specs.Replay.{outcome, shown_by};
+ghost use Rattle.analysis_set.specs.Analysis.{HasSeen, kib_of, made_of};
 ghost use Rattle.guard_run.specs.Verdicts.{verdict_from};
 ghost use Rattle.hart_model.specs.Fetch.{grain};
+ghost use Rattle.hart_model.specs.Machine.{hart};
+ghost use Rattle.hart_model.specs.State.{State};
 ghost use Rattle.machine_model.specs.Image.{IsLoadable};
-ghost use Rattle.replayer.specs.Replays.{ram_size_of};
+ghost use Rattle.replayer.specs.Replays.{Replays, ram_size_of};
+ghost use Rattle.run_events.specs.declared.event.Event.{Event};
+ghost use Rattle.run_events.specs.declared.record.Record.{Record as Item};
+ghost use Rattle.run_events.specs.Record.{IsRecord};
 
 use analysis_set::{Analysis, AnyAnalysis};
 use elf_image::Image;
 use gate_core::Verdict;
 use memory_map::NoMemory;
 use replayer::Replay;
-use run_events::{Kind, Record};
+use run_events::{Diverged, Kind, Record};
 use std::alloc::Global;
 use turn_run::Follower;
 
@@ -74,6 +80,35 @@ fn verdict_of(first: Option<u32>, reach: u32) -> Verdict
     }
 }
 
+// Replays the next record, and shows the analysis what it says. The kind is asked once a record and not once a step, so
+// that each analysis has a loop of its own.
+fn take_shown(
+    replay: &mut Replay,
+    item: &Record,
+    analysis: &mut AnyAnalysis,
+) -> Result<(), Diverged>
+    requires item { IsRecord item.now }
+    requires size { ram_size_of replay.old ≡ 1024 * kib_of analysis.old }
+    ensures replays { (start : State) (before : List Item)
+        → Replays start before replay.old
+        → Replays start (item.now ∷ before) replay.new }
+    ensures shown { (start : State) (before : List Item) (h : List Event)
+        → Replays start before replay.old
+        → HasSeen analysis.old (h ++ shown_by hart start (outcome hart start before))
+        → HasSeen analysis.new (h ++ shown_by hart start (outcome hart start (item.now ∷ before))) }
+    ensures ram { ram_size_of replay.new ≡ ram_size_of replay.old }
+    ensures size { kib_of analysis.new ≡ kib_of analysis.old }
+    ensures made { made_of analysis.new ≡ made_of analysis.old }
+{
+    match analysis {
+        AnyAnalysis::Heap(redzones) => replay.take(item, redzones),
+        AnyAnalysis::Taint(taint) => replay.take(item, taint),
+        AnyAnalysis::Calls(calls) => replay.take(item, calls),
+        AnyAnalysis::Cover(coverage) => replay.take(item, coverage),
+        AnyAnalysis::Locks(locks) => replay.take(item, locks),
+    }
+}
+
 impl Follower for Replica {
     ghost use Rattle.guard_run.specs.Beginnings.{replica_rises, replica_starts};
     ghost use Rattle.guard_run.specs.Replicas.{replicas_follow};
@@ -86,7 +121,7 @@ impl Follower for Replica {
 
     fn take(&mut self, item: &Record) {
         // After a fault of the list the replay stands still, and so does what is said of it.
-        let _fault = self.replay.take(item, &mut self.analysis);
+        let _fault = take_shown(&mut self.replay, item, &mut self.analysis);
     }
 
     fn verdict(&self) -> Verdict {

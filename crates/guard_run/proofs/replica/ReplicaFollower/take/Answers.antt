@@ -13,8 +13,8 @@ returns-clause-taken c = λ items was.
     let start = started c.args.self.now.image c.args.self.now.ram_kib in
     let last = sym (reverse-last items c.args.item.now) in
     record {
-      replays = subst (λ l. Replays start l c.take-fault.new.self) last (c.take-fault.ensures.replays start (reverse items) was.replays);
-      seen = subst (λ l. HasSeen c.take-fault.new.seen (shown_by hart start (outcome hart start l))) last (c.take-fault.ensures.shown start (reverse items) [] was.replays was.seen);
-      made = c.take-fault.ensures.made ∙ was.made;
-      size = c.take-fault.ensures.size ∙ was.size;
+      replays = subst (λ l. Replays start l c.take_shown-fault.new.replay) last (c.take_shown-fault.ensures.replays start (reverse items) was.replays);
+      seen = subst (λ l. HasSeen c.take_shown-fault.new.analysis (shown_by hart start (outcome hart start l))) last (c.take_shown-fault.ensures.shown start (reverse items) [] was.replays was.seen);
+      made = c.take_shown-fault.ensures.made ∙ was.made;
+      size = c.take_shown-fault.ensures.size ∙ was.size;
     }
