@@ -46,6 +46,7 @@ impl Watcher for Calls {
 
     ghost make = { make_now };
 
+    #[inline(never)]
     fn see(&mut self, event: &Event) {
         self.take_in(event);
     }
@@ -132,6 +133,7 @@ impl Calls {
     }
 
     // The call at `pc` returns to the instruction after it.
+    #[inline(never)]
     fn push(&mut self, pc: u32)
         requires { IsWordInRam self.old.ram_kib pc }
         ensures { self.new ≡ pushed self.old (pc + 4) }
@@ -140,6 +142,7 @@ impl Calls {
         let _dropped = frames.push_front(pc + 4);
     }
 
+    #[inline(never)]
     fn pop(&mut self, step: u32, pc: u32, next: u32)
         ensures { self.new ≡ returned self.old step pc next }
     {

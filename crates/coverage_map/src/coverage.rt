@@ -44,6 +44,7 @@ impl Watcher for Coverage {
 
     ghost make = { make_now };
 
+    #[inline(never)]
     fn see(&mut self, event: &Event) {
         self.take_in(event);
     }

@@ -47,6 +47,7 @@ impl Tally {
     }
 
     /// Adds the next finding. The number stops at 2^64 - 1.
+    #[cold]
     pub fn add(&mut self, finding: Finding)
         ensures effect { self.new ≡ with_finding self.old finding }
         ensures tallied { (found : List Finding)

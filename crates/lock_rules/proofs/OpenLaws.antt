@@ -1,11 +1,12 @@
 -- The least byte that is open, over one range and over many.
 use Rattle.std.proofs.Common.{◌≡◌, ℕ, zero, suc, ◌+◌, ◌-◌, ◌<◌, ◌≤◌, Bool, true, false, not, ◌&&◌, ◌||◌, cond, List, [], ◌∷◌, length, drop, get_or, min, max, Option, Some, None, refl, sym, ap, ◌∙◌, arith, inl, inr}
 use Rattle.std.specs.Prelude.{IfSome}
+use Rattle.std.specs.Option.{option_map}
 use Rattle.std.proofs.lemmas.Bool.{cases_lt}
 use Rattle.std.proofs.lemmas.List.{drop_more, drop_all}
 use Rattle.list_laws.specs.Least.{is_between, least_from}
 use Rattle.list_laws.proofs.LeastLaws.{least_found, least_none, is_between-yes, is_between-no}
-use Rattle.analysis_model.specs.Locks.{is_held_by}
+use Rattle.analysis_model.specs.Locks.{is_held_by, bad_access}
 use Rattle.lock_rules.specs.declared.lock.Lock.{Lock}
 use Rattle.lock_rules.specs.declared.guard.Guard.{Guard}
 use Rattle.lock_rules.specs.Entries.{holder_at, is_open_in, is_open}
@@ -34,6 +35,23 @@ open_part_held locks context guard from size held =
 -- and of another each is open
 pub open_part_free : (locks : List Lock) (context : ℕ) (guard : Guard) (from size : ℕ) → is_held_by (holder_at locks guard.place) context ≡ false → least_from (is_between guard.from guard.to) from size ≡ least_from (is_open_in locks context guard) from size
 open_part_free locks context guard from size free = ap (λ t. least_from (λ n. not t && is_between guard.from guard.to n) from size) (sym free)
+
+-- a range that has none of the addresses has no open one
+pub open_part_none : (locks : List Lock) (context : ℕ) (guard : Guard) (from size : ℕ) → None ≡ least_from (is_between guard.from guard.to) from size → None ≡ least_from (is_open_in locks context guard) from size
+open_part_none locks context guard from size none = by_case (is_held_by (holder_at locks guard.place) context) refl
+  where
+    by_case : (held : Bool) → is_held_by (holder_at locks guard.place) context ≡ held → None ≡ least_from (is_open_in locks context guard) from size
+    by_case true held = open_part_held locks context guard from size held
+    by_case false free = none ∙ open_part_free locks context guard from size free
+
+-- where nothing is guarded, or nothing touched, there is nothing to complain of
+pub none_guarded : (locks : List Lock) (context from size : ℕ) (guards : List Guard) → length guards ≡ 0 → option_map bad_access (least_from (is_open locks context guards) from size) ≡ None
+none_guarded locks context from size [] none = ap (option_map bad_access) (least_none (is_open locks context []) from size (λ n low high. refl))
+none_guarded locks context from size (guard ∷ guards) none = absurd (omega arith)
+
+pub none_touched : (p : ℕ → Bool) (from : ℕ) → option_map bad_access (least_from p from 0) ≡ None
+unfolding least_from
+none_touched p from = refl
 
 least_low : (p : ℕ → Bool) (from count : ℕ) → IfSome (least_from p from count) (λ n. from ≤ n)
 unfolding least_from

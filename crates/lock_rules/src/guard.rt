@@ -33,14 +33,19 @@ pub fn least_open(
 }
 
 // The least of the addresses that the range has, where the context does not hold its lock.
-#[tactic(auto, using(crate::proofs::OpenLaws::open_part_held, crate::proofs::OpenLaws::open_part_free))]
+#[tactic(auto, using(crate::proofs::OpenLaws::open_part_held, crate::proofs::OpenLaws::open_part_free, crate::proofs::OpenLaws::open_part_none))]
 fn open_part(locks: &[Lock], guard: &Guard, context: u32, from: u32, size: u32) -> Option<u32>
     ensures { result ≡ least_from (is_open_in locks.now context guard.now) from size }
 {
-    if is_held_by(holder_at(locks, guard.place), context) {
-        None
-    } else {
-        overlap(guard, from, size)
+    match overlap(guard, from, size) {
+        None => None,
+        Some(first) => {
+            if is_held_by(holder_at(locks, guard.place), context) {
+                None
+            } else {
+                Some(first)
+            }
+        }
     }
 }
 

@@ -1,6 +1,6 @@
 //! The analysis of locks.
 ghost use Rattle.memory_map.specs.declared.TheConstants.{LEAST_RAM_KIB, MOST_RAM_KIB};
-ghost use Rattle.std.specs.Prelude.{◌≡◌, ℕ, ◌*◌, ◌<◌, ◌≤◌, List, [], ◌∷◌, ◌++◌, length, map, Option, None, Some, IfOk};
+ghost use Rattle.std.specs.Prelude.{◌≡◌, ℕ, ◌*◌, ◌<◌, ◌≤◌, true, List, [], ◌∷◌, ◌++◌, length, map, Option, None, Some, IfOk};
 ghost use Rattle.std.specs.Option.{option_map};
 ghost use Rattle.std.specs.List.{position_from};
 ghost use Rattle.run_events.specs.declared.announcement.Announcement.TheVariants as announce;
@@ -55,6 +55,7 @@ impl Watcher for Locks {
 
     ghost make = { make_now };
 
+    #[inline(never)]
     fn see(&mut self, event: &Event) {
         self.take_in(event);
     }
@@ -106,7 +107,46 @@ impl Locks {
         self.found.kept()
     }
 
+    #[inline(always)]
     fn take_in(&mut self, event: &Event)
+        ensures { self.new ≡ after self.old event.now }
+    {
+        if !self.is_calm(event) {
+            self.take_in_whole(event);
+        }
+    }
+
+    // Whether the event announces nothing and touches nothing that could be guarded, as nearly each.
+    #[inline(always)]
+    fn is_calm(&self, event: &Event) -> bool
+        ensures { result ≡ true → after self.now event.now ≡ self.now }
+    {
+        match event {
+            Event::Exec {
+                word,
+                access,
+                told,
+                ..
+            } => Announcement::of(*word, *told).is_none() && self.allows(access),
+            Event::Dma { .. } | Event::Irq { .. } | Event::Trap { .. } => true,
+        }
+    }
+
+    #[tactic(auto, using(crate::proofs::OpenLaws::none_touched))]
+    #[inline(always)]
+    fn allows(&self, access: &Access) -> bool
+        ensures { result ≡ true → opened self.now access.now ≡ None }
+    {
+        match access {
+            Access::Quiet => true,
+            Access::Load { .. } | Access::Store { .. } | Access::Swap { .. } => self
+                .guards
+                .is_empty(),
+        }
+    }
+
+    #[inline(never)]
+    fn take_in_whole(&mut self, event: &Event)
         ensures { self.new ≡ after self.old event.now }
     {
         if let Event::Exec {

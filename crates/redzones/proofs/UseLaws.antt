@@ -1,10 +1,12 @@
 -- Values of the shadow and the uses that they stand for, tested and painted.
-use Rattle.std.proofs.Common.{◌≡◌, ◌≢◌, ℕ, ◌+◌, ◌-◌, ◌*◌, ◌%◌, ◌^◌, ◌==◌, ◌<◌, min, max, not, Bool, true, false, cond, Option, None, Some, length, unwrap_or, refl, sym, ap, ◌∙◌, arith}
+use Rattle.std.proofs.Common.{◌≡◌, ◌≢◌, ℕ, ◌+◌, ◌-◌, ◌*◌, ◌%◌, ◌^◌, ◌==◌, ◌<◌, ◌≤◌, min, max, not, Bool, true, false, cond, Option, None, Some, length, unwrap_or, refl, sym, ap, ◌∙◌, arith}
 use Rattle.std.specs.Prelude.{IfSome, IfNone}
+use Rattle.std.specs.Int.Bits.{bit_and}
 use Rattle.std.proofs.lemmas.Bool.Decides.{nat_tests}
 use Rattle.std.proofs.lemmas.Nat.{and_mask}
 use Rattle.memory_map.specs.declared.TheConstants.{RAM_START}
 use Rattle.list_laws.specs.Least.{least_from}
+use Rattle.list_laws.proofs.LeastLaws.{least_none}
 use Rattle.run_events.specs.declared.announcement.Announcement.{Announcement}
 use Rattle.run_events.specs.declared.announcement.Announcement.TheVariants.{Allocate, Free, Acquire, Release, Enter, Check, Guard}
 use Rattle.analysis_model.specs.Heap.{Plain, Live, Red, Freed, is_forbidden, is_live, use_made}
@@ -45,9 +47,12 @@ other_test n is = grind (arith, nat_tests)
 quarter : (v : ℕ) → v % 4 ≢ 0 → v % 8 ≢ 0
 quarter v is low = is (omega arith)
 
+clear_use : (v : ℕ) → bit_and v FORBIDDEN ≡ 0 → is_forbidden (use_coded v) ≡ false
+clear_use v is = forbidden_clear (v % 8 == 0) (v % 4 == 0) (v % 2 == 0) (zero_test (v % 4) (sym (and_mask v 2) ∙ is))
+
 pub forbidden_tests : Tests FORBIDDEN (λ v. is_forbidden (use_coded v))
 forbidden_tests = record {
-  clear = λ v byte is. forbidden_clear (v % 8 == 0) (v % 4 == 0) (v % 2 == 0) (zero_test (v % 4) (sym (and_mask v 2) ∙ is));
+  clear = λ v byte is. clear_use v is;
   has = λ v is.
       let low : v % 4 ≢ 0 = λ e. is (and_mask v 2 ∙ e) in
       forbidden_has (v % 8 == 0) (v % 4 == 0) (v % 2 == 0) (other_test (v % 8) (quarter v low)) (other_test (v % 4) low);
@@ -64,6 +69,9 @@ pub forbidden_found : (s : Shade) (from len to : ℕ) (o : Option ℕ) → to �
 forbidden_found s from len to o end bytes some none =
     let length_is : to - from ≡ len = omega arith in
     searched s bytes FORBIDDEN (λ v. is_forbidden (use_coded v)) forbidden_tests from to o some none ∙ ap (least_from (λ a. is_forbidden (use_in s a)) from) length_is
+
+pub forbidden_none : (s : Shade) (from len : ℕ) → len ≤ 4 → NoneBetween s FORBIDDEN from (from + 4) → least_from (λ a. is_forbidden (use_in s a)) from len ≡ None
+forbidden_none s from len few none = least_none (λ a. is_forbidden (use_in s a)) from len (λ n low high. clear_use (shade s n) (none n low (omega (arith, few, high))))
 
 pub dead_found : (s : Shade) (kib from to : ℕ) (o : Option ℕ) → length s.bytes ≡ 1024 * kib → ((a : ℕ) → shade s a < 2 ^ 8) → IfSome o (IsLeast s from to NOT_LIVE) → IfNone o (NoneBetween s NOT_LIVE from to) → o ≡ least_in_ram kib (λ a. not (is_live (use_in s a))) from to
 dead_found s kib from to o whole bytes some none =

@@ -1,11 +1,11 @@
 //! The uses of bytes, as a shadow of RAM.
 ghost use Rattle.memory_map.specs.declared.TheConstants.{LEAST_RAM_KIB, MOST_RAM_KIB};
-ghost use Rattle.std.specs.Prelude.{◌≡◌, ℕ, ◌*◌, not, ◌≤◌, List, [], ◌∷◌, ◌++◌, length, IfOk};
+ghost use Rattle.std.specs.Prelude.{◌≡◌, ℕ, ◌*◌, not, ◌≤◌, true, List, [], ◌∷◌, ◌++◌, length, None, IfOk};
 ghost use Rattle.std.specs.Option.{option_map, option_or};
 ghost use Rattle.list_laws.specs.Least.{least_from};
 ghost use Rattle.run_events.specs.declared.event.Event.{Event};
 ghost use Rattle.run_events.specs.declared.finding.Kind.TheVariants as kind;
-ghost use Rattle.run_events.specs.Event.{Fits};
+ghost use Rattle.run_events.specs.Event.{AccessFits, Fits};
 ghost use Rattle.analysis_model.specs.Complaints.{findings};
 ghost use Rattle.analysis_model.specs.Findings.{first_step, tally, kept};
 ghost use Rattle.analysis_model.specs.Heap.{is_forbidden, is_live, bad_free, touch, free, touch_kind};
@@ -65,6 +65,7 @@ impl Watcher for Redzones {
 
     ghost make = { make_now };
 
+    #[inline(never)]
     fn see(&mut self, event: &Event) {
         self.take_in(event);
     }
@@ -118,7 +119,35 @@ impl Redzones {
         self.found.kept()
     }
 
+    #[inline(always)]
     fn take_in(&mut self, event: &Event)
+        requires { Fits self.old.ram_kib event.now }
+        ensures { self.new ≡ after self.old event.now }
+    {
+        if !self.is_calm(event) {
+            self.take_in_whole(event);
+        }
+    }
+
+    // Whether the event announces nothing and touches no forbidden byte, as nearly each.
+    #[inline(always)]
+    fn is_calm(&self, event: &Event) -> bool
+        requires { Fits self.now.ram_kib event.now }
+        ensures { result ≡ true → after self.now event.now ≡ self.now }
+    {
+        match event {
+            Event::Exec {
+                word,
+                access,
+                told,
+                ..
+            } => Announcement::of(*word, *told).is_none() && self.allows(access),
+            Event::Dma { .. } | Event::Irq { .. } | Event::Trap { .. } => true,
+        }
+    }
+
+    #[cold]
+    fn take_in_whole(&mut self, event: &Event)
         requires { Fits self.old.ram_kib event.now }
         ensures { self.new ≡ after self.old event.now }
     {
@@ -137,6 +166,29 @@ impl Redzones {
         let finding = self.look(step, pc, announced, access);
         self.paint(announced);
         self.found.note(finding);
+    }
+
+    // Whether the access touches no forbidden byte.
+    #[inline(always)]
+    fn allows(&self, access: &Access) -> bool
+        requires { AccessFits self.now.ram_kib access.now }
+        ensures { result ≡ true → touch (use_in self.now.shade) access.now ≡ None }
+    {
+        match *access {
+            Access::Quiet => true,
+            Access::Load { device: true, .. } | Access::Store { device: true, .. } => true,
+            Access::Load { address, .. } | Access::Store { address, .. } => self.is_clear(address),
+            Access::Swap { address, .. } => self.is_clear(address),
+        }
+    }
+
+    // Whether no access of at most four bytes from an address on touches a forbidden one.
+    #[inline(always)]
+    fn is_clear(&self, address: u32) -> bool
+        ensures { result ≡ true → (width : ℕ) → width ≤ 4 →
+            least_from (λ a. is_forbidden (use_in self.now.shade a)) address width ≡ None }
+    {
+        self.shadow.is_clear(address, FORBIDDEN)
     }
 
     // What there is to find at an instruction with this announcement and this access.

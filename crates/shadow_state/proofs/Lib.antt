@@ -1,4 +1,5 @@
 mod FillLaws
+mod FourLaws
 pub mod LeastLaws
 pub mod PaintLaws
 pub mod SizeLaws

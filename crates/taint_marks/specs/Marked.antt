@@ -5,7 +5,16 @@ use Rattle.run_events.specs.declared.access.Access.{Access}
 use Rattle.run_events.specs.declared.access.Access.TheVariants as access
 use Rattle.analysis_model.specs.Taint.{Place, mark_of}
 use Rattle.analysis_model.specs.Taint as model
-use Rattle.taint_marks.specs.declared.writes.Writes.{Writes}
+
+-- The marks that an event gives: to the register `rd`, to mscratch, and to `width` bytes from an address on. Where there
+-- is none, they keep theirs.
+pub record Writes : Type 0 where
+  pub rd : ℕ
+  pub result : Option ℕ
+  pub scratch : Option ℕ
+  pub address : ℕ
+  pub width : ℕ
+  pub stored : Option ℕ
 
 abbrev pub given_none : Writes
 given_none = record { rd = 0; result = None; scratch = None; address = 0; width = 0; stored = None }

@@ -10,8 +10,7 @@ use Rattle.analysis_model.specs.Made.{guest_made_of}
 use Rattle.analysis_model.specs.Taint.{Place, Register, Scratch, Byte, IsPlace, is_general, writes_of, mark_after, taint_by}
 use Rattle.finding_tally.specs.Tallied.{Tallied, Tallies, tallied_with}
 use Rattle.shadow_state.specs.Shade.{Shade, shade, painted}
-use Rattle.taint_marks.specs.declared.writes.Writes.{Writes}
-use Rattle.taint_marks.specs.Marked.{marked_by}
+use Rattle.taint_marks.specs.Marked.{Writes, marked_by}
 
 -- what it keeps: the RAM size in KiB, the marks of the registers, of mscratch and of each byte of RAM, and the findings
 pub record Marks : Type 0 where

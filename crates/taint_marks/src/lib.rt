@@ -5,6 +5,5 @@ mod shared;
 mod taint;
 #[cfg(test)]
 mod tests;
-mod writes;
 
 pub use taint::Taint;

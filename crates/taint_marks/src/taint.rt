@@ -12,10 +12,10 @@ ghost use Rattle.analysis_model.specs.InRam.{least_in_ram};
 ghost use Rattle.analysis_model.specs.Look.{finding_at};
 ghost use Rattle.analysis_model.specs.Made.{make_of};
 ghost use Rattle.analysis_model.specs.Taint.{Register, Byte, is_marked, is_marked_jump, bytes_from, loaded as sources_loaded, old_bytes, operands, mark_of, union_of, writes_as, writes_by, with_result as writes_with, no_writes, atomic_writes, csr_writes, scratch_writes, jump, leak, leaked};
-ghost use Rattle.taint_marks.specs.Marked.{marked_by, given_stored};
+ghost use Rattle.rv_decode.specs.Listing.{instruction};
+ghost use Rattle.taint_marks.specs.Marked.{marked_by, given_result, given_stored};
 ghost use Rattle.taint_marks.specs.Marks.{Marks, Stands, make_now, guest_now, mark_now, with_given, after, registers_with, shade_with};
 
-use crate::writes::{Writes, none, stored, to_bytes, to_register, with_result};
 use elf_image::Image;
 use finding_tally::Tally;
 use memory_map::NoMemory;
@@ -30,6 +30,17 @@ const MSCRATCH: u32 = 0x340;
 
 // Of a range that must be unmarked so many bytes are looked at.
 const MOST_CHECKED: u32 = 4096;
+
+// The opcodes of most instructions. (Unprivileged manual, chapter 24.)
+const LOAD: u32 = 0x03;
+
+const STORE: u32 = 0x23;
+
+const BRANCH: u32 = 0x63;
+
+const OP_IMM: u32 = 0x13;
+
+const OP: u32 = 0x33;
 
 /// Which registers and bytes of RAM hold what came from marked input, and where a marked address was jumped to or a
 /// marked byte was about to leave.
@@ -61,6 +72,7 @@ impl Watcher for Taint {
 
     ghost make = { make_now };
 
+    #[inline(never)]
     fn see(&mut self, event: &Event) {
         self.take_in(event);
     }
@@ -114,12 +126,38 @@ impl Taint {
         self.found.kept()
     }
 
+    // Nearly each instruction has nothing to find, and only moves marks.
+    #[inline(always)]
     fn take_in(&mut self, event: &Event)
         requires { Fits self.old.ram_kib event.now }
         ensures { self.new ≡ after self.old event.now }
     {
+        match event {
+            Event::Dma { address, mark, .. } => self.put_bytes(*address, 4, *mark),
+            Event::Irq { .. } | Event::Trap { .. } => {}
+            Event::Exec {
+                word,
+                access,
+                told,
+                ..
+            } => {
+                let announced = Announcement::of(*word, *told);
+                if announced.is_none() && !self.jumps_marked(decode(*word)) {
+                    self.give(*word, access);
+                } else {
+                    self.take_in_whole(event);
+                }
+            }
+        }
+    }
+
+    #[cold]
+    fn take_in_whole(&mut self, event: &Event)
+        requires { Fits self.old.ram_kib event.now }
+        ensures { self.new ≡ after self.old event.now }
+    {
         match *event {
-            Event::Dma { address, mark, .. } => self.put(to_bytes(address, 4, mark)),
+            Event::Dma { address, mark, .. } => self.put_bytes(address, 4, mark),
             Event::Irq { .. } | Event::Trap { .. } => {}
             Event::Exec {
                 step,
@@ -130,16 +168,16 @@ impl Taint {
                 told,
                 ..
             } => {
-                let instr = decode(word);
-                let finding = self.look(step, pc, next, instr, Announcement::of(word, told));
-                let given = self.given(instr, access);
-                self.put(given);
+                let announced = Announcement::of(word, told);
+                let finding = self.look(step, pc, next, decode(word), announced);
+                self.give(word, &access);
                 self.found.note(finding);
             }
         }
     }
 
     // What there is to find at an instruction that goes on at `next`, with this announcement.
+    #[inline(always)]
     fn look(
         &self,
         step: u32,
@@ -171,6 +209,7 @@ impl Taint {
     }
 
     // Whether it is a jump to a marked address.
+    #[inline(always)]
     fn jumps_marked(&self, instr: Option<Instr>) -> bool
         ensures { result ≡ is_marked_jump (mark_now self.now) instr }
     {
@@ -201,6 +240,7 @@ impl Taint {
     }
 
     // The mark of a register. That of x0 is never written.
+    #[inline(always)]
     fn register(&self, number: u32) -> u8
         ensures { result ≡ mark_now self.now (Register number) }
     {
@@ -210,70 +250,127 @@ impl Taint {
         }
     }
 
-    // The marks that an instruction gives that made this access.
-    fn given(&self, instr: Option<Instr>, access: Access) -> Writes
-        requires { AccessFits self.now.ram_kib access }
-        ensures { result ≡ marked_by (mark_now self.now) (writes_as instr access) }
+    // Gives the marks of the instruction `word` that made this access. Each frequent opcode has a body of its own, which the
+    // compiler frees of what other opcodes need.
+    #[inline(always)]
+    fn give(&mut self, word: u32, access: &Access)
+        requires { AccessFits self.old.ram_kib access.now }
+        ensures { self.new ≡ with_given self.old (marked_by (mark_now self.old) (writes_as (instruction word) access.now)) }
+    {
+        match word % 128 {
+            LOAD => self.give_opcode::<LOAD>(word, access),
+            STORE => self.give_opcode::<STORE>(word, access),
+            BRANCH => self.give_opcode::<BRANCH>(word, access),
+            OP_IMM => self.give_opcode::<OP_IMM>(word, access),
+            OP => self.give_opcode::<OP>(word, access),
+            _ => self.give_word(word, access),
+        }
+    }
+
+    fn give_opcode<const OPCODE: u32>(&mut self, word: u32, access: &Access)
+        requires { AccessFits self.old.ram_kib access.now }
+        ensures { self.new ≡ with_given self.old (marked_by (mark_now self.old) (writes_as (instruction word) access.now)) }
+    {
+        if word % 128 == OPCODE {
+            self.give_decoded(decode(word), access)
+        } else {
+            self.give_word(word, access)
+        }
+    }
+
+    #[inline(never)]
+    fn give_word(&mut self, word: u32, access: &Access)
+        requires { AccessFits self.old.ram_kib access.now }
+        ensures { self.new ≡ with_given self.old (marked_by (mark_now self.old) (writes_as (instruction word) access.now)) }
+    {
+        self.give_decoded(decode(word), access)
+    }
+
+    #[inline(always)]
+    fn give_decoded(&mut self, instr: Option<Instr>, access: &Access)
+        requires { AccessFits self.old.ram_kib access.now }
+        ensures { self.new ≡ with_given self.old (marked_by (mark_now self.old) (writes_as instr access.now)) }
     {
         match instr {
-            Some(instr) => self.given_by(instr, access),
-            None => none(),
+            Some(instr) => self.give_by(instr, access),
+            None => {}
         }
     }
 
     #[tactic(auto, using(crate::proofs::MarkLaws::or_nothing, crate::proofs::MarkLaws::marked_by_stored))]
-    fn given_by(&self, instr: Instr, access: Access) -> Writes
-        requires { AccessFits self.now.ram_kib access }
-        ensures { result ≡ marked_by (mark_now self.now) (writes_by instr access) }
+    #[inline(always)]
+    fn give_by(&mut self, instr: Instr, access: &Access)
+        requires { AccessFits self.old.ram_kib access.now }
+        ensures { self.new ≡ with_given self.old (marked_by (mark_now self.old) (writes_by instr access.now)) }
     {
         match instr {
             Instr::Lui { rd, .. }
             | Instr::Auipc { rd, .. }
             | Instr::Jal { rd, .. }
-            | Instr::Jalr { rd, .. } => to_register(rd, 0),
-            Instr::Load { rd, .. } => self.loaded(rd, access),
-            Instr::Store { rs2, .. } => stored(access, self.register(rs2)),
-            Instr::OpImm { rd, rs1, .. } => to_register(rd, self.register(rs1)),
-            Instr::Op { op, rd, rs1, rs2 } => to_register(rd, self.combined(op, rs1, rs2)),
-            Instr::Atomic { op, rd, rs2, .. } => self.exchanged(op, rd, rs2, access),
+            | Instr::Jalr { rd, .. } => self.put_register(rd, 0),
+            Instr::Load { rd, .. } => self.load(rd, access),
+            Instr::Store { rs2, .. } => self.store(access, self.register(rs2)),
+            Instr::OpImm { rd, rs1, .. } => self.put_register(rd, self.register(rs1)),
+            Instr::Op { op, rd, rs1, rs2 } => self.put_register(rd, self.combined(op, rs1, rs2)),
+            Instr::Atomic { op, rd, rs2, .. } => self.exchange(op, rd, rs2, access),
             Instr::Csr {
                 op,
                 rd,
                 source,
                 csr,
-            } => self.moved(op, rd, source, csr),
+            } => self.move_csr(op, rd, source, csr),
             Instr::Branch { .. }
             | Instr::Fence { .. }
             | Instr::Ecall
             | Instr::Ebreak
             | Instr::Mret
-            | Instr::Wfi => none(),
+            | Instr::Wfi => {}
         }
     }
 
     // Of a load: the marks of the bytes of RAM, or that of a device's register.
-    fn loaded(&self, rd: u32, access: Access) -> Writes
-        requires { AccessFits self.now.ram_kib access }
-        ensures { result ≡ marked_by (mark_now self.now) (writes_with rd (sources_loaded access) no_writes) }
+    #[inline(always)]
+    fn load(&mut self, rd: u32, access: &Access)
+        requires { AccessFits self.old.ram_kib access.now }
+        ensures { self.new ≡ with_given self.old (marked_by (mark_now self.old) (writes_with rd (sources_loaded access.now) no_writes)) }
     {
-        match access {
+        match *access {
             Access::Load {
                 device: true,
                 mark,
                 ..
-            } => to_register(rd, mark),
+            } => self.put_register(rd, mark),
             Access::Load {
                 address,
                 width,
                 device: false,
                 ..
-            } => to_register(rd, self.bytes(address, width)),
-            _ => Writes { rd, ..none() },
+            } => self.put_register(rd, self.bytes(address, width)),
+            _ => {}
+        }
+    }
+
+    // Of a store to RAM.
+    #[inline(always)]
+    fn store(&mut self, access: &Access, mark: u8)
+        requires { AccessFits self.old.ram_kib access.now }
+        ensures { self.new ≡ with_given self.old (given_stored access.now mark) }
+    {
+        match *access {
+            Access::Store {
+                address,
+                width,
+                device: false,
+                ..
+            } => self.put_bytes(address, width, mark),
+            Access::Swap { address, .. } => self.put_bytes(address, 4, mark),
+            _ => {}
         }
     }
 
     // Of an operation on two registers. The exclusive or of a register with itself, and the difference, are 0.
     #[tactic(auto, using(crate::proofs::MarkLaws::or_nothing))]
+    #[inline(always)]
     fn combined(&self, op: RegOp, rs1: u32, rs2: u32) -> u8
         ensures { result ≡ mark_of (mark_now self.now) (operands op rs1 rs2) }
     {
@@ -285,35 +382,55 @@ impl Taint {
 
     // Of an atomic operation.
     #[tactic(auto, using(crate::proofs::MarkLaws::or_nothing, crate::proofs::MarkLaws::marked_by_stored))]
-    fn exchanged(&self, op: AtomicOp, rd: u32, rs2: u32, access: Access) -> Writes
-        requires { AccessFits self.now.ram_kib access }
-        ensures { result ≡ marked_by (mark_now self.now) (atomic_writes op rd rs2 access) }
+    fn exchange(&mut self, op: AtomicOp, rd: u32, rs2: u32, access: &Access)
+        requires { AccessFits self.old.ram_kib access.now }
+        ensures { self.new ≡ with_given self.old (marked_by (mark_now self.old) (atomic_writes op rd rs2 access.now)) }
     {
+        let old = self.old(access);
         match op {
-            AtomicOp::Lr => self.loaded(rd, access),
-            AtomicOp::Sc => with_result(rd, 0, stored(access, self.register(rs2))),
-            AtomicOp::Swap => with_result(rd, self.old(access), stored(access, self.register(rs2))),
-            _ => {
-                let old = self.old(access);
-                with_result(rd, old, stored(access, self.register(rs2) | old))
-            }
+            AtomicOp::Lr => self.load(rd, access),
+            AtomicOp::Sc => self.swap(rd, 0, access, self.register(rs2)),
+            AtomicOp::Swap => self.swap(rd, old, access, self.register(rs2)),
+            _ => self.swap(rd, old, access, self.register(rs2) | old),
         }
     }
 
-    // The mark of the bytes that an atomic operation reads.
-    fn old(&self, access: Access) -> u8
-        requires { AccessFits self.now.ram_kib access }
-        ensures { result ≡ union_of (mark_now self.now) (old_bytes access) }
+    // Gives a mark to the register, and one to the bytes that are stored.
+    fn swap(&mut self, rd: u32, loaded: u8, access: &Access, stored: u8)
+        requires { AccessFits self.old.ram_kib access.now }
+        ensures { self.new ≡ with_given self.old (given_result rd (Some loaded) (given_stored access.now stored)) }
     {
-        match access {
+        self.store(access, stored);
+        self.put_register(rd, loaded);
+    }
+
+    // The mark of the bytes that an atomic operation reads.
+    fn old(&self, access: &Access) -> u8
+        requires { AccessFits self.now.ram_kib access.now }
+        ensures { result ≡ union_of (mark_now self.now) (old_bytes access.now) }
+    {
+        match *access {
             Access::Swap { address, .. } => self.bytes(address, 4),
             _ => 0,
         }
     }
 
-    // The mark of what is made of these bytes.
-    #[tactic(auto, using(crate::proofs::MarkLaws::bytes_more))]
+    // The mark of what is made of these bytes. Most have none.
+    #[inline(always)]
     fn bytes(&self, address: u32, width: u32) -> u8
+        requires few { width ≤ 4 }
+        requires within { InRam (1024 * self.now.ram_kib) address width }
+        ensures { result ≡ union_of (mark_now self.now) (bytes_from address width) }
+    {
+        if self.shadow.is_clear(address, u8::MAX) {
+            0
+        } else {
+            self.union_of(address, width)
+        }
+    }
+
+    #[tactic(auto, using(crate::proofs::MarkLaws::bytes_more))]
+    fn union_of(&self, address: u32, width: u32) -> u8
         requires { InRam (1024 * self.now.ram_kib) address width }
         ensures { result ≡ union_of (mark_now self.now) (bytes_from address width) }
     {
@@ -326,16 +443,15 @@ impl Taint {
 
     // Of an access to a CSR.
     #[tactic(auto, using(crate::proofs::MarkLaws::or_nothing))]
-    fn moved(&self, op: CsrOp, rd: u32, source: u32, csr: u32) -> Writes
-        ensures { result ≡ marked_by (mark_now self.now) (csr_writes op rd source csr) }
+    fn move_csr(&mut self, op: CsrOp, rd: u32, source: u32, csr: u32)
+        ensures { self.new ≡ with_given self.old (marked_by (mark_now self.old) (csr_writes op rd source csr)) }
     {
         if csr != MSCRATCH {
-            return to_register(rd, 0);
+            return self.put_register(rd, 0);
         }
-        Writes {
-            scratch: self.scratch_written(op, source),
-            ..to_register(rd, self.scratch)
-        }
+        let scratch = self.scratch_written(op, source);
+        self.put_register(rd, self.scratch);
+        self.put_scratch(scratch);
     }
 
     #[tactic(auto, using(crate::proofs::MarkLaws::or_nothing))]
@@ -351,21 +467,12 @@ impl Taint {
         }
     }
 
-    // Gives the marks.
-    fn put(&mut self, given: Writes)
-        ensures { self.new ≡ with_given self.old given }
+    #[inline(always)]
+    fn put_register(&mut self, rd: u32, mark: u8)
+        ensures { self.new ≡ record self.old { registers = registers_with self.old.registers rd (Some mark) } }
     {
-        self.put_register(given.rd, given.result);
-        self.put_scratch(given.scratch);
-        self.put_bytes(given.address, given.width, given.stored);
-    }
-
-    fn put_register(&mut self, rd: u32, mark: Option<u8>)
-        ensures { self.new ≡ record self.old { registers = registers_with self.old.registers rd mark } }
-    {
-        match mark {
-            Some(mark) if rd >= 1 && rd < 32 => self.registers[rd as usize] = mark,
-            _ => {}
+        if rd >= 1 && rd < 32 {
+            self.registers[rd as usize] = mark;
         }
     }
 
@@ -377,12 +484,21 @@ impl Taint {
         }
     }
 
-    fn put_bytes(&mut self, address: u32, width: u32, mark: Option<u8>)
-        ensures { self.new ≡ record self.old { shade = shade_with self.old.shade address width mark } }
+    // Most bytes that get none had none.
+    #[inline(always)]
+    fn put_bytes(&mut self, address: u32, width: u32, mark: u8)
+        requires { width ≤ 4 }
+        ensures { self.new ≡ record self.old { shade = shade_with self.old.shade address width (Some mark) } }
     {
-        if let Some(mark) = mark {
-            let start = u64::from(address);
-            self.shadow.paint(start, start + u64::from(width), mark);
+        if mark != 0 || !self.shadow.is_clear(address, u8::MAX) {
+            self.paint(address, width, mark);
         }
+    }
+
+    fn paint(&mut self, address: u32, width: u32, mark: u8)
+        ensures { self.new ≡ record self.old { shade = shade_with self.old.shade address width (Some mark) } }
+    {
+        let start = u64::from(address);
+        self.shadow.paint(start, start + u64::from(width), mark);
     }
 }
