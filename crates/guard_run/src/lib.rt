@@ -5,8 +5,6 @@ mod closing;
 mod job;
 mod parts;
 mod replica;
-#[cfg(test)]
-mod tests;
 mod turns;
 
 pub use closing::Closing;

@@ -51,7 +51,8 @@ fn replicas_of(alloc: Global, job: &RunJob, image: &Image) -> Result<Vec<Replica
     requires most { job.now.ram_kib ≤ MOST_RAM_KIB }
     requires loadable { IsLoadable (1024 * job.now.ram_kib) image.now.segments }
     requires aligned { image.now.entry % grain ≡ 0 }
-    ensures fresh { IfOk result (λ replicas. AreFresh image.now job.now.ram_kib job.now.kinds replicas.items) }
+    ensures fresh { IfOk result (λ replicas.
+        AreFresh image.now job.now.ram_kib job.now.kinds replicas.items) }
     ensures few { length job.now.kinds ≤ 5 }
 {
     let mut replicas = Vec::with_capacity(alloc, job.kinds.len() as usize)?;

@@ -35,7 +35,9 @@ impl Parts {
     pub fn finish(self) -> Closing
         requires { IsReadOut self }
         ensures whole { (job : Job) → IsEnded job self → IsWholeRun job result }
-        ensures cut { (job : Job) (count put : ℕ) → IsStopped job count put self → IsCutRun job count put result }
+        ensures cut { (job : Job) (count put : ℕ)
+            → IsStopped job count put self
+            → IsCutRun job count put result }
     {
         Closing {
             over: self.run.finish(),
