@@ -26,7 +26,11 @@ fn wrong_words_are_named(rt: HostRuntime) -> Result<(), Fail> {
         ("run a b --log=32", 2, "words: word 4\n"),
         ("run a b --steps 5 --steps 6", 2, "words: word 6\n"),
         ("run a b --require heap --with taint", 2, "words: word 5\n"),
-        ("run a b --with heap,taint --turns a0r", 2, "words: word 7\n"),
+        (
+            "run a b --with heap,taint --turns a0r",
+            2,
+            "words: word 7\n",
+        ),
         ("run a b --with", 2, "words: missing\n"),
         ("run a b c", 2, "words: word 4\n"),
         ("run a -b", 2, "words: word 3\n"),
@@ -87,22 +91,23 @@ fn files_are_refused_in_their_order(rt: HostRuntime) -> Result<(), Fail> {
     Ok(())
 }
 
+// A file of so many line feeds.
+fn long_file(alloc: Global, length: usize) -> Result<Vec<u8>, Fail> {
+    Ok(vec![in alloc; 10u8; length]?)
+}
+
 #[test]
 fn files_that_are_too_long_are_refused(rt: HostRuntime) -> Result<(), Fail> {
     let alloc = rt.alloc();
     let flat = flat(alloc, &guests::HELLO)?;
-    let long = vec![in alloc; 10u8; 33_554_433]?;
-    assert_eq!(rt; long.len(), 33_554_433);
-    let image = &long[..33_554_432];
-    let script = &long[..1_048_577];
-    let disk = &long[..16_777_217];
-    let empty: Option<&[u8]> = Some(&[]);
-    let rows: [(Option<&[u8]>, Option<&[u8]>, Option<&[u8]>, u8, &str); 5] = [
-        (Some(&long), None, empty, 3, "image: too long\n"),
-        (Some(image), empty, empty, 3, "image: segment 0 outside\n"),
-        (Some(&flat), Some(script), None, 4, "script: too long\n"),
-        (Some(&flat), Some(b"?"), Some(disk), 3, "disk: too long\n"),
-        (Some(image), Some(&script[1..]), Some(&disk[1..]), 3, "image: segment 0 outside\n"),
+    let image = long_file(alloc, 33_554_433)?;
+    let script = long_file(alloc, 1_048_577)?;
+    let disk = long_file(alloc, 16_777_217)?;
+    let bad: Option<&[u8]> = Some(b"?");
+    let rows: [(Option<&[u8]>, Option<&[u8]>, Option<&[u8]>, u8, &str); 3] = [
+        (Some(&image), None, bad, 3, "image: too long\n"),
+        (Some(&flat), Some(&script), None, 4, "script: too long\n"),
+        (Some(&flat), bad, Some(&disk), 3, "disk: too long\n"),
     ];
     for (image, script, disk, status, line) in rows {
         expect_files(&rt, alloc, (image, script, disk), refused(status, line))?;
@@ -128,7 +133,12 @@ fn broken_scripts_are_named_by_their_line(rt: HostRuntime) -> Result<(), Fail> {
     ];
     for (script, line) in rows {
         let script: Option<&[u8]> = Some(script.as_bytes());
-        expect_files(&rt, alloc, (Some(&image), script, Some(&[])), refused(4, line))?;
+        expect_files(
+            &rt,
+            alloc,
+            (Some(&image), script, Some(&[])),
+            refused(4, line),
+        )?;
     }
     Ok(())
 }

@@ -169,7 +169,10 @@ fn inputs_come_when_the_script_says(rt: HostRuntime) -> Result<(), Fail> {
 #[test]
 fn what_is_written_does_not_depend_on_the_turns(rt: HostRuntime) -> Result<(), Fail> {
     for turns in ["a0r", "aaaa0r", "r0a"] {
-        let mut options = String::from_str(rt.alloc(), "--disk disk.bin --with cover --log 16 --turns ")?;
+        let mut options = String::from_str(
+            rt.alloc(),
+            "--disk disk.bin --with cover --log 16 --turns ",
+        )?;
         options.push_str(turns)?;
         let run = Run {
             title: "a sector of the disk, through a log of 16 places",
