@@ -4,3 +4,4 @@ pub mod FileLaws
 pub mod LogSizes
 pub mod ReleaseLaws
 pub mod ReportLaws
+mod AskedLaws

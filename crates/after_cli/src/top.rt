@@ -1,10 +1,10 @@
 //! The top call, and what it answers.
-ghost use Rattle.std.specs.Prelude.{◌≡◌, ◌+◌, ◌↔◌, List, ℕ, Some, None, MatchResult, length, map, string_bytes, unwrap_or};
+ghost use Rattle.std.specs.Prelude.{◌≡◌, ◌+◌, ◌↔◌, List, ℕ, Some, None, IfOk, MatchResult, length, map, string_bytes, unwrap_or};
 ghost use Rattle.after_edge.specs.Fault.{Rose};
 ghost use Rattle.after_edge.specs.Files.{Contents};
 ghost use Rattle.command_words.specs.Jobs.{first_bad_in, job_in};
 ghost use Rattle.command_words.specs.declared.fault.WordsFault.TheVariants.{Word};
-ghost use Rattle.command_words.specs.Limits.{IsWithin};
+ghost use Rattle.command_words.specs.Sound.{IsSoundRun};
 ghost use Rattle.command_words.specs.Says.{run_said};
 ghost use Rattle.refusals.specs.Lines.{output_failed_line, refusal_line};
 ghost use Rattle.refusals.specs.Status.{status_of};
@@ -52,8 +52,9 @@ impl Answer {
 
 // The run that words ask for, on one thread.
 fn asked_run(words: &[String]) -> Result<RunWords<'_>, Refusal>
-    ensures { MatchResult result (λ run. IsAsked (map string_bytes words.now) (run_said run))
+    ensures is { MatchResult result (λ run. IsAsked (map string_bytes words.now) (run_said run))
         (IsNoRun (map string_bytes words.now)) }
+    ensures sound { IfOk result (λ run. IsSoundRun (run_said run)) }
 {
     let run = match read_words(words) {
         Ok(Command::Run(run)) => run,
@@ -77,7 +78,7 @@ fn answer_run<F: Files, O: Sink>(
     files: &mut F,
     out: &mut O,
 ) -> Answer
-    requires { IsWithin (run_said run.now) }
+    requires { IsSoundRun (run_said run.now) }
     ensures means { (words : List (List ℕ)) → IsAsked words (run_said run.now) →
         Means (F.content files.old) words (F.faults files.old) (F.faults files.new) O.told out.old out.new result }
     ensures same { F.content files.new ≡ F.content files.old }

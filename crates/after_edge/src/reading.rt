@@ -33,7 +33,8 @@ pub fn read_all<F: Files>(
     name: &str,
     max: usize,
 ) -> Result<Vec<u8>, FileFault>
-    ensures whole { IfOk result (λ bytes. IfTold (F.content files.old) (λ told. told name.now ≡ Some bytes.items)) }
+    ensures whole { IfOk result (λ bytes. IfTold (F.content files.old) (λ told. told name.now
+        ≡ Some bytes.items)) }
     ensures within { IfOk result (λ bytes. vec_len bytes ≤ max) }
     ensures cause { HasFileCause (F.content files.old) name.now max (F.faults files.old) (F.faults files.new) result }
     ensures same { F.content files.new ≡ F.content files.old }
@@ -51,7 +52,8 @@ fn read_through<F: Files>(
     buffer: &mut [u8],
 ) -> Result<Vec<u8>, FileFault>
     requires { 0 < length buffer.old }
-    ensures whole { IfOk result (λ bytes. IfTold (F.content files.old) (λ told. told name.now ≡ Some bytes.items)) }
+    ensures whole { IfOk result (λ bytes. IfTold (F.content files.old) (λ told. told name.now
+        ≡ Some bytes.items)) }
     ensures within { IfOk result (λ bytes. vec_len bytes ≤ max) }
     ensures cause { HasFileCause (F.content files.old) name.now max (F.faults files.old) (F.faults files.new) result }
     ensures same { F.content files.new ≡ F.content files.old }

@@ -1,6 +1,6 @@
 -- What an analysis is made of tells its findings and its part of the report: coverage alone looks at the guest's code, and
 -- it is made of that.
-use Rattle.std.proofs.Common.{◌≡◌, ℕ, List, refl, sym, ap, ◌∙◌}
+use Rattle.std.proofs.Common.{◌≡◌, ℕ, List, refl, ap}
 use Rattle.run_events.specs.declared.event.Event.{Event}
 use Rattle.run_events.specs.declared.finding.Kind.{Kind}
 use Rattle.run_events.specs.declared.finding.Kind.TheVariants.{Heap, Taint, Calls, Cover, Locks}
@@ -10,7 +10,7 @@ use Rattle.analysis_model.specs.Complaints.{Guest, findings}
 use Rattle.analysis_model.specs.Cover.{Span}
 use Rattle.analysis_model.specs.Locks.{locks_kept}
 use Rattle.analysis_model.specs.Made.{make_of, kind_made_of, guest_made_of, guest_of}
-use Rattle.analysis_model.specs.Report.{more_text, part_text}
+use Rattle.analysis_model.specs.Report.{part_text}
 use Rattle.analysis_model.proofs.MadeLaws.{code_made_of-cover}
 use Rattle.analysis_set.specs.Analysis.{findings_made, part_made}
 

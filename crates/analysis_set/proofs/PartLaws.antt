@@ -1,6 +1,5 @@
 -- The line of the findings of an analysis, from what the analysis tells.
-use Rattle.std.proofs.Common.{◌≡◌, ℕ, List, Option, ◌∙◌}
-use Rattle.run_events.specs.declared.event.Event.{Event}
+use Rattle.std.proofs.Common.{◌≡◌, ℕ, List, Option}
 use Rattle.run_events.specs.declared.finding.Finding.{Finding}
 use Rattle.run_events.specs.declared.finding.Kind.{Kind}
 use Rattle.analysis_model.specs.Findings.{first_step, tally}

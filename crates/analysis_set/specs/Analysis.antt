@@ -2,7 +2,6 @@
 use Rattle.std.specs.Prelude.{ℕ, List}
 use Rattle.run_events.specs.declared.event.Event.{Event}
 use Rattle.run_events.specs.declared.finding.Finding.{Finding}
-use Rattle.run_events.specs.declared.finding.Kind.{Kind}
 use Rattle.analysis_model.specs.Complaints.{findings}
 use Rattle.analysis_model.specs.Made.{kind_made_of, guest_made_of}
 use Rattle.analysis_model.specs.Report.{more_text, part_text}

@@ -1,4 +1,5 @@
 //! The enum of analyses.
+ghost use Rattle.memory_map.specs.declared.TheConstants.{LEAST_RAM_KIB, MOST_RAM_KIB};
 ghost use Rattle.std.specs.Prelude.{◌≡◌, ◌≤◌, ℕ, List, [], ◌∷◌, ◌++◌, IfOk};
 ghost use Rattle.run_events.specs.declared.event.Event.{Event};
 ghost use Rattle.run_events.specs.Event.{Fits};
@@ -34,8 +35,8 @@ impl AnyAnalysis {
         image: &Image,
         ram_kib: u32,
     ) -> Result<AnyAnalysis, NoMemory>
-        requires least { 64 ≤ ram_kib }
-        requires most { ram_kib ≤ 16384 }
+        requires least { LEAST_RAM_KIB ≤ ram_kib }
+        requires most { ram_kib ≤ MOST_RAM_KIB }
         ensures seen { IfOk result (λ analysis. HasSeen analysis []) }
         ensures size { IfOk result (λ analysis. kib_of analysis ≡ ram_kib) }
         ensures made { IfOk result (λ analysis. made_of analysis ≡ make_of kind image.now) }

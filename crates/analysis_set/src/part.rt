@@ -83,7 +83,8 @@ fn put_ranges<O: Sink>(coverage: &Coverage, out: &mut O) -> Result<(), Failed>
 fn shown_range(coverage: &Coverage, index: u64) -> Line
     requires there { index < length (ranges_now coverage.now) }
     requires shown { index < 64 }
-    ensures { result ≡ range_line (slice_index_or (take 64 (ranges_now coverage.now)) index (record { from = 0; to = 0 })) }
+    ensures { result
+        ≡ range_line (slice_index_or (take 64 (ranges_now coverage.now)) index (record { from = 0; to = 0 })) }
 {
     let (from, to) = coverage.range(index);
     lines::range(from, to)

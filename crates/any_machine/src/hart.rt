@@ -1,4 +1,5 @@
 //! A hart in code, which a machine of the definitions describes.
+ghost use Rattle.memory_map.specs.declared.TheConstants.{MOST_STEPS};
 ghost use Rattle.std.specs.Prelude.{◌≡◌, ◌*◌, ◌<◌, ℕ, false, None, IsTrue, is_some};
 ghost use Rattle.run_events.specs.Event.{Fits};
 ghost use Rattle.run_events.specs.declared.supply.Need.TheVariants.{Nothing};
@@ -32,7 +33,7 @@ pub trait Hart {
 
     /// Does the next step with these lines and what the device register that it loads gives, and answers what it shows.
     fn step(&mut self, lines: u8, supplied: Option<Supplied>) -> Event
-        requires room { done self.old < 1000000000 }
+        requires room { done self.old < MOST_STEPS }
         requires given { is_load (machine.needs self.old lines) ≡ is_some supplied }
         ensures step { machine.step self.old lines supplied ≡ (result, self.new) }
         ensures size { ram_size self.new ≡ ram_size self.old }
@@ -41,17 +42,21 @@ pub trait Hart {
     /// Does the next step where it is one that the hart does fast, which loads no device register, and leaves what it
     /// shows in `event`. Where it answers false the hart is as before, and `step` does the step.
     fn try_step(&mut self, lines: u8, event: &mut Event) -> bool
-        requires room { done self.old < 1000000000 }
+        requires room { done self.old < MOST_STEPS }
         ensures same { result ≡ false → self.new ≡ self.old }
         ensures plain { IsTrue result → machine.needs self.old lines ≡ Nothing }
         ensures step { IsTrue result → machine.step self.old lines None ≡ (event.new, self.new) }
         ensures size { ram_size self.new ≡ ram_size self.old }
-        ensures fits { (ram_kib : ℕ) → IsTrue result → ram_size self.old ≡ 1024 * ram_kib → Fits ram_kib event.new };
+        ensures fits { (ram_kib : ℕ)
+            → IsTrue result
+            → ram_size self.old ≡ 1024 * ram_kib
+            → Fits ram_kib event.new };
 
     /// The disk writes a word into RAM before the next step. It answers what that shows.
     fn dma(&mut self, address: u32, word: u32, mark: u8) -> Event
         requires { IsTrue (machine.holds self.old address) }
-        ensures touch { machine.touch self.old (record { address = address; word = word; mark = mark }) ≡ (result, self.new) }
+        ensures touch { machine.touch self.old (record { address = address; word = word; mark = mark })
+            ≡ (result, self.new) }
         ensures size { ram_size self.new ≡ ram_size self.old }
         ensures fits { (ram_kib : ℕ) → ram_size self.old ≡ 1024 * ram_kib → Fits ram_kib result };
 

@@ -21,6 +21,8 @@ pub trait Recorder: Drop {
 
     /// Runs on to the next record. Ended comes exactly where none is left, and then at each later call. It takes no memory.
     fn advance(&mut self) -> Advance
-        ensures given { (items : List Item) → recording.to_come self.old items → Advances recording items self.new result }
+        ensures given { (items : List Item)
+            → recording.to_come self.old items
+            → Advances recording items self.new result }
         ensures falls { Falls recording self.old self.new result };
 }

@@ -1,4 +1,5 @@
 //! The steps below a number, done and shown.
+ghost use Rattle.memory_map.specs.declared.TheConstants.{MOST_STEPS};
 ghost use Rattle.std.specs.Prelude.{◌≡◌, ◌-◌, ◌*◌, ◌≤◌};
 ghost use Rattle.any_machine.specs.Held.{run_held, run_shown};
 ghost use Rattle.any_replay.specs.Standing.{held_of, SeesMore};
@@ -17,7 +18,7 @@ const NOTHING: Event = Event::Irq {
 
 /// Does the steps below a number and shows each, up to one that cannot be done or a power store.
 pub fn run_to<H: Hart, W: Watcher>(standing: &mut Standing<H>, number: u32, seen: &mut W)
-    requires number { number ≤ 1000000000 }
+    requires number { number ≤ MOST_STEPS }
     requires size { H.ram_size standing.old.hart ≡ 1024 * W.ram_kib seen.old }
     ensures held { held_of H.done standing.new
         ≡ run_held H.machine (number - H.done standing.old.hart) (held_of H.done standing.old) }

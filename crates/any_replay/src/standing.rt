@@ -1,4 +1,5 @@
 //! A hart with what it was fed for the step to come.
+ghost use Rattle.memory_map.specs.declared.TheConstants.{MOST_STEPS};
 ghost use Rattle.std.specs.Prelude.{◌≡◌, ◌<◌, ◌*◌, ℕ, IsTrue, false, not, is_some};
 ghost use Rattle.run_events.specs.Event.{Fits};
 ghost use Rattle.any_machine.specs.Replay.{load_fault};
@@ -40,7 +41,7 @@ pub fn wait<H: Hart>(standing: &Standing<H>) -> Option<Why>
 // The step to come of a hart, where it has the value that it needs and no other. It leaves what the step shows in
 // `event`.
 fn do_step<H: Hart>(hart: &mut H, lines: u8, load: Option<Supplied>, event: &mut Event) -> bool
-    requires { H.done hart.old < 1000000000 }
+    requires { H.done hart.old < MOST_STEPS }
     ensures answer { result ≡ not (is_some (load_fault (H.machine.needs hart.old lines) load)) }
     ensures stays { result ≡ false → hart.new ≡ hart.old }
     ensures does { IsTrue result → H.machine.step hart.old lines load ≡ (event.new, hart.new) }
@@ -60,7 +61,7 @@ fn do_step<H: Hart>(hart: &mut H, lines: u8, load: Option<Supplied>, event: &mut
 
 /// Does the step to come, where it has the value that it needs and no other, and leaves what it shows in `event`.
 pub fn step<H: Hart>(standing: &mut Standing<H>, event: &mut Event) -> bool
-    requires { H.done standing.old.hart < 1000000000 }
+    requires { H.done standing.old.hart < MOST_STEPS }
     ensures answer { result
         ≡ not (is_some (wait_fault H.machine (held_of H.done standing.old))) }
     ensures stays { result ≡ false → standing.new ≡ standing.old }

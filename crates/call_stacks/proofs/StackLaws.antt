@@ -1,5 +1,5 @@
 -- What the analysis stands for, with one event more.
-use Rattle.std.proofs.Common.{◌≡◌, ◌≢◌, ℕ, ◌+◌, ◌-◌, ◌^◌, ◌<◌, ◌≤◌, ◌==◌, Bool, true, false, cond, if◌then◌else◌, List, [], ◌∷◌, ◌++◌, length, reverse, replicate, min, get_or, set, slice_get, Option, None, Some, unwrap_or, refl, sym, ap, ◌∙◌, arith, inl, inr, length-append, append-nil}
+use Rattle.std.proofs.Common.{◌≡◌, ◌≢◌, ℕ, ◌+◌, ◌-◌, ◌^◌, ◌<◌, ◌==◌, Bool, true, false, cond, if◌then◌else◌, List, [], ◌∷◌, ◌++◌, length, reverse, replicate, min, get_or, set, slice_get, Option, None, Some, unwrap_or, refl, sym, ap, ◌∙◌, arith, inl, inr, length-append, append-nil}
 use Rattle.std.specs.List.{cons_option}
 use Rattle.std.specs.Option.{option_map}
 use Rattle.std.proofs.lemmas.Bool.{cases_eq}
@@ -23,7 +23,7 @@ use Rattle.analysis_model.proofs.ContextLaws.{context-more, context_small}
 use Rattle.analysis_model.proofs.LookLaws.{told_at-more}
 use Rattle.finding_tally.specs.Tallied.{Tallied, Tallies, tallied, tallied_with}
 use Rattle.finding_tally.proofs.TalliedLaws.{tallied_with-more}
-use Rattle.call_stacks.specs.Stacks.{Stacks, Holds, Stands, ring_of, pushed_on, popped_off, front_of, unmatched_with, moved, after, guest_now, unmatched_in}
+use Rattle.call_stacks.specs.Stacks.{Stacks, Holds, Stands, ring_of, pushed_on, popped_off, front_of, unmatched_with, moved, after, guest_now}
 use Rattle.call_stacks.proofs.RingLaws.{Holds-none, Holds-push, Holds-pop}
 
 some_frames : 0 < frames_kept

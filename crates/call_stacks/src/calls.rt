@@ -1,4 +1,5 @@
 //! The analysis of calls and returns.
+ghost use Rattle.memory_map.specs.declared.TheConstants.{LEAST_RAM_KIB, MOST_RAM_KIB};
 ghost use Rattle.std.specs.Prelude.{◌≡◌, ℕ, ◌+◌, ◌*◌, ◌^◌, ◌<◌, ◌≤◌, List, [], ◌∷◌, ◌++◌, length, Option, IfOk};
 ghost use Rattle.run_events.specs.declared.event.Event.{Event};
 ghost use Rattle.run_events.specs.declared.finding.Kind.TheVariants as kind;
@@ -35,7 +36,7 @@ impl Model for Calls {
 
     ghost view = { λ c. record { ram_kib = c.ram_kib; context = c.context; rings = c.rings.items; unmatched = c.unmatched; found = c.found } };
 
-    ghost invariant = { λ c. (c.ram_kib ≤ 16384) × (c.context < 64) × (length c.rings.items ≡ 64) };
+    ghost invariant = { λ c. (c.ram_kib ≤ MOST_RAM_KIB) × (c.context < 64) × (length c.rings.items ≡ 64) };
 }
 
 impl Watcher for Calls {
@@ -54,8 +55,8 @@ impl Calls {
     /// Nothing seen yet, of a guest with `ram_kib` KiB of RAM; its image tells nothing of calls. It is the only call that
     /// takes memory.
     pub fn new(alloc: Global, _image: &Image, ram_kib: u32) -> Result<Calls, NoMemory>
-        requires least { 64 ≤ ram_kib }
-        requires most { ram_kib ≤ 16384 }
+        requires least { LEAST_RAM_KIB ≤ ram_kib }
+        requires most { ram_kib ≤ MOST_RAM_KIB }
         ensures seen { IfOk result (λ c. Stands c []) }
         ensures size { IfOk result (λ c. c.ram_kib ≡ ram_kib) }
         ensures made { IfOk result (λ c. make_now c ≡ make_of kind.Calls _image.now) }

@@ -1,4 +1,4 @@
 pub mod ValueLaws
 pub mod DraftLaws
 pub mod RoleLaws
-pub mod RunLaws
+pub mod SoundLaws

@@ -13,7 +13,7 @@ use Rattle.command_words.specs.declared.table.CommandName.TheVariants as command
 use Rattle.command_words.specs.declared.table.Setting.{Setting}
 use Rattle.command_words.specs.declared.table.Setting.TheVariants.{Disk, Mode, With, Require, Ram, Steps, Log, Threads, Turns}
 use Rattle.command_words.specs.Table.{command_named, plain_count}
-use Rattle.command_words.specs.Values.{best_in, kinds, kinds_in, number_in, required_in, size_in, turns_in}
+use Rattle.command_words.specs.Values.{best_in, kinds, kinds_in, log_in, ram_in, required_in, seed_in, size_in, steps_in, threads_in, turns_in}
 use Rattle.command_words.specs.Roles.{Role, ends_open, first_bad, found, plain_words, roles}
 
 -- a run: its files, how large it is, its analyses, and how it goes on
@@ -67,9 +67,6 @@ abbrev pub value_or : {A : Type 0} → A → (List ℕ → Option A) → Option 
 value_or default read None = default
 value_or default read (Some given) = unwrap_or (read given.0) default
 
-abbrev pub number_or : ℕ → ℕ → ℕ → Option (List ℕ × ℕ) → ℕ
-number_or default least most given = value_or default (number_in least most) given
-
 abbrev pub is_best : Values → Bool
 is_best values = value_or false best_in (values Mode)
 
@@ -85,19 +82,19 @@ abbrev pub required : Values → List Kind
 required values = if is_best values then [] else named_required values
 
 abbrev pub threads : Values → ℕ
-threads values = number_or 0 0 8 (values Threads)
+threads values = value_or 0 threads_in (values Threads)
 
 abbrev pub turns : Values → List Letter
 turns values = value_or (plain_turns (length (chosen values))) turns_in (values Turns)
 
 abbrev pub ram : Values → ℕ
-ram values = number_or 1024 64 16384 (values Ram)
+ram values = value_or 1024 ram_in (values Ram)
 
 abbrev pub steps : Values → ℕ
-steps values = number_or 10000000 1 1000000000 (values Steps)
+steps values = value_or 10000000 steps_in (values Steps)
 
 abbrev pub log : Values → ℕ
-log values = value_or 1024 size_in (values Log)
+log values = value_or 1024 log_in (values Log)
 
 abbrev pub disk : Values → Option (List ℕ)
 disk values = option_map (λ given. given.0) (values Disk)
@@ -151,8 +148,8 @@ analyze_job values words = record { image = slice_index_or words 0 []; log_file 
 
 abbrev pub load_job : Values → List (List ℕ) → LoadJob
 load_job values words = record {
-  seed = unwrap_or (number_in 0 4294967295 (slice_index_or words 0 [])) 0;
-  size = unwrap_or (number_in 1 100000 (slice_index_or words 1 [])) 1;
+  seed = unwrap_or (seed_in (slice_index_or words 0 [])) 0;
+  size = unwrap_or (size_in (slice_index_or words 1 [])) 1;
   log = log values;
   threads = threads values;
 }

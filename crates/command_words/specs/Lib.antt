@@ -4,4 +4,4 @@ pub mod Roles
 pub mod Drafts
 pub mod Jobs
 pub mod Says
-pub mod Limits
+pub mod Sound

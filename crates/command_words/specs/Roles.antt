@@ -5,7 +5,7 @@ use Rattle.command_words.specs.declared.table.CommandName.{CommandName}
 use Rattle.command_words.specs.declared.table.CommandName.TheVariants.{Run, Record, Analyze, Show, Load}
 use Rattle.command_words.specs.declared.table.Setting.{Setting}
 use Rattle.command_words.specs.Table.{belongs, place, plain_count, setting_named}
-use Rattle.command_words.specs.Values.{◌>>=◌, is_option, is_plain, is_value, number_in}
+use Rattle.command_words.specs.Values.{◌>>=◌, is_option, is_plain, is_value, seed_in, size_in}
 
 -- a plain word; an option; or the value of the option that stands before it: each with its number among the words
 pub data Role : Type 0 where
@@ -66,7 +66,7 @@ meets_plain Run before word = true
 meets_plain Record before word = true
 meets_plain Analyze before word = true
 meets_plain Show before word = true
-meets_plain Load before word = if before == 0 then is_some (number_in 0 4294967295 word) else is_some (number_in 1 100000 word)
+meets_plain Load before word = if before == 0 then is_some (seed_in word) else is_some (size_in word)
 
 -- whether a plain word may stand behind so many others
 unfoldable pub may_stand : CommandName → ℕ → List ℕ → Bool

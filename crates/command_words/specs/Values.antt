@@ -5,6 +5,7 @@ use Rattle.std.specs.Char.{is_ascii_digit}
 use Rattle.std.specs.Int.{is_power_of_two}
 use Rattle.std.specs.Result.{result_ok}
 use Rattle.std.specs.Str.{bytes_eq}
+use Rattle.memory_map.specs.declared.TheConstants.{LEAST_RAM_KIB, MOST_RAM_KIB, MOST_STEPS}
 use Rattle.run_events.specs.declared.finding.Kind.{Kind}
 use Rattle.run_events.specs.declared.finding.Kind.TheVariants.{Heap, Taint, Calls, Cover, Locks}
 use Rattle.run_settings.specs.Kinds.{are_once}
@@ -40,9 +41,29 @@ number_in least most text = result_ok (number_at least most text)
 unfoldable pub best_in : List ℕ → Option Bool
 best_in text = if bytes_eq text (codes "sync") then Some false else if bytes_eq text (codes "best") then Some true else None
 
--- a power of two
-unfoldable pub size_in : List ℕ → Option ℕ
-size_in text = number_in 16 65536 text >>= λ size. if is_power_of_two size then Some size else None
+-- the size of RAM in KiB
+abbrev pub ram_in : List ℕ → Option ℕ
+ram_in text = number_in LEAST_RAM_KIB MOST_RAM_KIB text
+
+-- the most steps of a run
+abbrev pub steps_in : List ℕ → Option ℕ
+steps_in text = number_in 1 MOST_STEPS text
+
+-- how many places a log has: a power of two
+unfoldable pub log_in : List ℕ → Option ℕ
+log_in text = number_in 16 65536 text >>= λ places. if is_power_of_two places then Some places else None
+
+-- how many threads
+abbrev pub threads_in : List ℕ → Option ℕ
+threads_in text = number_in 0 8 text
+
+-- the number that a guest is made from
+abbrev pub seed_in : List ℕ → Option ℕ
+seed_in text = number_in 0 4294967295 text
+
+-- how many parts a made guest has
+abbrev pub size_in : List ℕ → Option ℕ
+size_in text = number_in 1 100000 text
 
 abbrev pub kinds : List Kind
 kinds = Heap ∷ Taint ∷ Calls ∷ Cover ∷ Locks ∷ []
@@ -97,10 +118,10 @@ meets Disk value = true
 meets Mode value = is_some (best_in value)
 meets With value = is_some (kinds_in value)
 meets Require value = is_some (required_in value)
-meets Ram value = is_some (number_in 64 16384 value)
-meets Steps value = is_some (number_in 1 1000000000 value)
-meets Log value = is_some (size_in value)
-meets Threads value = is_some (number_in 0 8 value)
+meets Ram value = is_some (ram_in value)
+meets Steps value = is_some (steps_in value)
+meets Log value = is_some (log_in value)
+meets Threads value = is_some (threads_in value)
 meets Turns value = is_some (turns_in value)
 
 abbrev pub is_value : Setting → List ℕ → Bool

@@ -6,14 +6,16 @@ ghost use Rattle.command_words.specs.Drafts.{held, plain_held, seen};
 ghost use Rattle.command_words.specs.Values.{kinds};
 ghost use Rattle.command_words.specs.Says.{Gives, analyze_said, load_said, record_said};
 ghost use Rattle.command_words.specs.Table.{plain_count};
-ghost use Rattle.command_words.specs.Jobs.{chosen, crossed_required, analyze_job, crossed_turns, disk, is_best, job_of, load_job, log, named_required, number_or, ram, record_job, required, run_of, steps, threads, turns, word_if};
+ghost use Rattle.command_words.specs.Jobs.{chosen, crossed_required, analyze_job, crossed_turns, disk, is_best, job_of, load_job, log, named_required, ram, record_job, required, run_of, steps, threads, turns, word_if};
 
 use crate::command::{AnalyzeWords, Command, LoadWords, RecordWords, RunWords, ShowWords};
 use crate::draft::{Draft, Given};
 use crate::fault::WordsFault;
-use crate::number::number_in;
 use crate::table::{CommandName, Setting};
-use crate::value::{best_in, kinds_in, required_in, size_in, turns_in};
+use crate::value::{
+    best_in, kinds_in, log_in, ram_in, required_in, seed_in, size_in, steps_in, threads_in,
+    turns_in,
+};
 use run_events::Kind;
 use run_settings::{Kinds, Turns};
 
@@ -69,39 +71,38 @@ fn required(draft: &Draft<'_>) -> Kinds
     }
 }
 
-// The number that a value gives, or what stands where there is none.
-fn number_or(given: Option<Given<'_>>, least: u32, most: u32, default: u32) -> u32
-    ensures { result ≡ number_or default least most (option_map seen given.entry) }
-{
-    match given {
-        Some(given) => number_in(given.text, least, most).unwrap_or(default),
-        None => default,
-    }
-}
-
 fn threads(draft: &Draft<'_>) -> u32
     ensures { result ≡ threads (held draft.now) }
 {
-    number_or(draft.value(Setting::Threads), 0, 8, 0)
+    match draft.value(Setting::Threads) {
+        Some(given) => threads_in(given.text).unwrap_or(0),
+        None => 0,
+    }
 }
 
 fn ram(draft: &Draft<'_>) -> u32
     ensures { result ≡ ram (held draft.now) }
 {
-    number_or(draft.value(Setting::Ram), 64, 16384, 1024)
+    match draft.value(Setting::Ram) {
+        Some(given) => ram_in(given.text).unwrap_or(1024),
+        None => 1024,
+    }
 }
 
 fn steps(draft: &Draft<'_>) -> u32
     ensures { result ≡ steps (held draft.now) }
 {
-    number_or(draft.value(Setting::Steps), 1, 1_000_000_000, 10_000_000)
+    match draft.value(Setting::Steps) {
+        Some(given) => steps_in(given.text).unwrap_or(10_000_000),
+        None => 10_000_000,
+    }
 }
 
 fn log(draft: &Draft<'_>) -> u32
     ensures { result ≡ log (held draft.now) }
 {
     match draft.value(Setting::Log) {
-        Some(given) => size_in(given.text).unwrap_or(1024),
+        Some(given) => log_in(given.text).unwrap_or(1024),
         None => 1024,
     }
 }
@@ -220,8 +221,8 @@ fn load_of(draft: &Draft<'_>) -> LoadWords
     ensures { load_said result ≡ load_job (held draft.now) (plain_held draft.now) }
 {
     LoadWords {
-        seed: number_in(draft.plain_word(0), 0, u32::MAX).unwrap_or(0),
-        size: number_in(draft.plain_word(1), 1, 100_000).unwrap_or(1),
+        seed: seed_in(draft.plain_word(0)).unwrap_or(0),
+        size: size_in(draft.plain_word(1)).unwrap_or(1),
         log: log(draft),
         threads: threads(draft),
     }

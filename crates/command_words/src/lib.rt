@@ -8,6 +8,8 @@ mod fault;
 mod number;
 mod reading;
 mod table;
+#[cfg(test)]
+mod tests;
 mod value;
 
 pub use command::{AnalyzeWords, Command, LoadWords, RecordWords, RunWords, ShowWords};

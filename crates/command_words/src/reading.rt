@@ -3,16 +3,16 @@ ghost use Rattle.std.specs.Prelude.{◌≡◌, ◌+◌, ◌<◌, ◌≤◌, List
 ghost use Rattle.command_words.specs.declared.fault.WordsFault.TheVariants.{Missing};
 ghost use Rattle.command_words.specs.Drafts.{Advances, Holds, IsDraft, Refuses, held, spent};
 ghost use Rattle.command_words.specs.Jobs.{first_bad_in, job_in, read_as};
-ghost use Rattle.command_words.specs.Says.{Gives};
+ghost use Rattle.command_words.specs.Sound.{IsSound};
+ghost use Rattle.command_words.specs.Says.{Gives, says};
 ghost use Rattle.command_words.specs.Roles.{Role, ends_open, may_stand, meets_plain, option_of, roles};
 
 use crate::assembling::command_of;
 use crate::command::Command;
 use crate::draft::{Draft, Given};
 use crate::fault::WordsFault;
-use crate::number::number_in;
 use crate::table::{CommandName, Setting};
-use crate::value::{is_option, is_plain, is_value};
+use crate::value::{is_option, is_plain, is_value, seed_in, size_in};
 
 // The option of a word, where the command has it and it has no value yet.
 #[tactic(auto, unfolding(crate::specs::Roles::option_of))]
@@ -33,8 +33,8 @@ fn meets_plain(command: CommandName, before: usize, word: &str) -> bool
     ensures { result ≡ meets_plain command before word.now }
 {
     match command {
-        CommandName::Load if before == 0 => number_in(word, 0, u32::MAX).is_some(),
-        CommandName::Load => number_in(word, 1, 100_000).is_some(),
+        CommandName::Load if before == 0 => seed_in(word).is_some(),
+        CommandName::Load => size_in(word).is_some(),
         CommandName::Run | CommandName::Record | CommandName::Analyze | CommandName::Show => true,
     }
 }
@@ -66,8 +66,10 @@ fn take_next<'a>(
     requires few { index ≤ spent draft.old }
     ensures few { IfOk result (λ next. next ≤ spent draft.new) }
     ensures short { result ≡ Err Missing → length words.now ≤ index + 1 }
-    ensures next { IfOk result (λ next. (before : List Role) → Holds before draft.old → Advances command (map string_bytes words.now) before index next draft.new) }
-    ensures refused { IfErr result (λ fault. (before : List Role) → Holds before draft.old → Refuses command before (roles (index + 2) None (drop index (map string_bytes words.now))) fault) }
+    ensures next { IfOk result (λ next. (before : List Role) → Holds before draft.old
+        → Advances command (map string_bytes words.now) before index next draft.new) }
+    ensures refused { IfErr result (λ fault. (before : List Role) → Holds before draft.old
+        → Refuses command before (roles (index + 2) None (drop index (map string_bytes words.now))) fault) }
 {
     let number = index as u32 + 2;
     let word = word_at(words, index);
@@ -126,10 +128,8 @@ fn read_as(command: CommandName, words: &[String]) -> Result<Command<'_>, WordsF
     command_of(command, &draft)
 }
 
-/// The command that words are, with all that they say, or what is wrong with them: the first bad word, or that something
-/// is missing, or the first word that does not go with the others. It takes no memory.
 #[tactic(auto, unfolding(crate::specs::Jobs::job_in))]
-pub fn read_words(words: &[String]) -> Result<Command<'_>, WordsFault>
+fn command_in(words: &[String]) -> Result<Command<'_>, WordsFault>
     ensures { Gives result (job_in (map string_bytes words.now)) }
 {
     let [first, later @ ..] = words else {
@@ -139,6 +139,16 @@ pub fn read_words(words: &[String]) -> Result<Command<'_>, WordsFault>
         Some(command) => read_as(command, later),
         None => Err(WordsFault::Word { number: 1 }),
     }
+}
+
+/// The command that words are, with all that they say, or what is wrong with them: the first bad word, or that something
+/// is missing, or the first word that does not go with the others. It takes no memory.
+#[tactic(auto, using(crate::proofs::SoundLaws::sound_of))]
+pub fn read_words(words: &[String]) -> Result<Command<'_>, WordsFault>
+    ensures exact { Gives result (job_in (map string_bytes words.now)) }
+    ensures sound { IfOk result (λ command. IsSound (says command)) }
+{
+    command_in(words)
 }
 
 /// The number of the first bad word among these, whatever stands behind them. Values that do not go together, and what is

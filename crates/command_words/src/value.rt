@@ -1,9 +1,10 @@
 //! The values of options.
 ghost use Rattle.std.specs.Prelude.{◌≡◌, ◌==◌, ◌∷◌, IsTrue, List, length, position, option_copied};
-ghost use Rattle.command_words.specs.Values.{best_in, is_option, is_plain, is_value, kind_named, kinds_in, letter_in, meets, parts_after, parts_of, required_in, size_in, turns_in};
+ghost use Rattle.command_words.specs.Values.{best_in, is_option, is_plain, is_value, kind_named, kinds_in, letter_in, log_in, meets, parts_after, parts_of, ram_in, required_in, seed_in, size_in, steps_in, threads_in, turns_in};
 
 use crate::number::number_in;
 use crate::table::Setting;
+use memory_map::{LEAST_RAM_KIB, MOST_RAM_KIB, MOST_STEPS};
 use run_events::Kind;
 use run_settings::{Kinds, Letter, Turns};
 
@@ -41,15 +42,50 @@ pub(crate) fn best_in(text: &str) -> Option<bool>
     }
 }
 
-// A power of two within the ends.
-#[tactic(auto, unfolding(crate::specs::Values::size_in))]
+// The size of RAM in KiB.
+pub(crate) fn ram_in(text: &str) -> Option<u32>
+    ensures { result ≡ ram_in text.now }
+{
+    number_in(text, LEAST_RAM_KIB, MOST_RAM_KIB)
+}
+
+// The most steps of a run.
+pub(crate) fn steps_in(text: &str) -> Option<u32>
+    ensures { result ≡ steps_in text.now }
+{
+    number_in(text, 1, MOST_STEPS)
+}
+
+// How many places a log has: a power of two.
+#[tactic(auto, unfolding(crate::specs::Values::log_in))]
+pub(crate) fn log_in(text: &str) -> Option<u32>
+    ensures { result ≡ log_in text.now }
+{
+    match number_in(text, 16, 65536) {
+        Some(places) if places.is_power_of_two() => Some(places),
+        _ => None,
+    }
+}
+
+// How many threads.
+pub(crate) fn threads_in(text: &str) -> Option<u32>
+    ensures { result ≡ threads_in text.now }
+{
+    number_in(text, 0, 8)
+}
+
+// The number that a guest is made from.
+pub(crate) fn seed_in(text: &str) -> Option<u32>
+    ensures { result ≡ seed_in text.now }
+{
+    number_in(text, 0, u32::MAX)
+}
+
+// How many parts a made guest has.
 pub(crate) fn size_in(text: &str) -> Option<u32>
     ensures { result ≡ size_in text.now }
 {
-    match number_in(text, 16, 65536) {
-        Some(size) if size.is_power_of_two() => Some(size),
-        _ => None,
-    }
+    number_in(text, 1, 100_000)
 }
 
 #[tactic(auto, unfolding(crate::specs::Values::kind_named, analysis_model::specs::Report::kind_name))]
@@ -175,10 +211,10 @@ fn meets(setting: Setting, value: &str) -> bool
         Setting::Mode => best_in(value).is_some(),
         Setting::With => kinds_in(value).is_some(),
         Setting::Require => required_in(value).is_some(),
-        Setting::Ram => number_in(value, 64, 16384).is_some(),
-        Setting::Steps => number_in(value, 1, 1_000_000_000).is_some(),
-        Setting::Log => size_in(value).is_some(),
-        Setting::Threads => number_in(value, 0, 8).is_some(),
+        Setting::Ram => ram_in(value).is_some(),
+        Setting::Steps => steps_in(value).is_some(),
+        Setting::Log => log_in(value).is_some(),
+        Setting::Threads => threads_in(value).is_some(),
         Setting::Turns => turns_in(value).is_some(),
     }
 }

@@ -1,4 +1,5 @@
 //! Coverage: marks a word of RAM, and findings.
+ghost use Rattle.memory_map.specs.declared.TheConstants.{LEAST_RAM_KIB, MOST_RAM_KIB};
 ghost use Rattle.std.specs.Prelude.{◌≡◌, ℕ, ◌*◌, ◌<◌, ◌≤◌, List, [], ◌∷◌, ◌++◌, length, slice_get, IfOk};
 ghost use Rattle.run_events.specs.declared.event.Event.{Event};
 ghost use Rattle.run_events.specs.declared.finding.Kind.TheVariants as kind;
@@ -33,7 +34,7 @@ impl Model for Coverage {
 
     ghost view = { λ c. record { ram_kib = c.ram_kib; code = c.code.items; marks = c.marks.items; found = c.found } };
 
-    ghost invariant = { λ c. (c.ram_kib ≤ 16384) × (length c.marks.items ≡ 256 * c.ram_kib) };
+    ghost invariant = { λ c. (c.ram_kib ≤ MOST_RAM_KIB) × (length c.marks.items ≡ 256 * c.ram_kib) };
 }
 
 impl Watcher for Coverage {
@@ -51,8 +52,8 @@ impl Watcher for Coverage {
 impl Coverage {
     /// Nothing seen yet, of a guest with this image and `ram_kib` KiB of RAM. It is the only call that takes memory.
     pub fn new(alloc: Global, image: &Image, ram_kib: u32) -> Result<Coverage, NoMemory>
-        requires least { 64 ≤ ram_kib }
-        requires most { ram_kib ≤ 16384 }
+        requires least { LEAST_RAM_KIB ≤ ram_kib }
+        requires most { ram_kib ≤ MOST_RAM_KIB }
         ensures seen { IfOk result (λ c. Stands c []) }
         ensures size { IfOk result (λ c. c.ram_kib ≡ ram_kib) }
         ensures made { IfOk result (λ c. make_now c ≡ make_of kind.Cover image.now) }
@@ -115,8 +116,11 @@ impl Coverage {
     /// The range with this index, in ascending order: its first address, and the one behind its last.
     pub fn range(&self, index: u64) -> (u32, u32)
         requires { index < length (ranges_now self.now) }
-        ensures now { slice_get (ranges_now self.now) index ≡ Some (record { from = result.0; to = result.1 }) }
-        ensures seen { (h : List Event) → Stands self.now h → slice_get (executed_ranges h) index ≡ Some (record { from = result.0; to = result.1 }) }
+        ensures now { slice_get (ranges_now self.now) index
+            ≡ Some (record { from = result.0; to = result.1 }) }
+        ensures seen { (h : List Event)
+            → Stands self.now h
+            → slice_get (executed_ranges h) index ≡ Some (record { from = result.0; to = result.1 }) }
     {
         find_range(&self.marks, index)
     }

@@ -61,7 +61,8 @@ fn range_end(marks: &[bool], start: usize) -> usize
     requires { slice_get marks.now start ≡ Some true }
     ensures from { start < result }
     ensures to { result ≤ length marks.now }
-    ensures range { runs (marked_behind marks.now start) ≡ record { from = place_address start; to = place_address result } ∷ runs (marked_behind marks.now result) }
+    ensures range { runs (marked_behind marks.now start)
+        ≡ record { from = place_address start; to = place_address result } ∷ runs (marked_behind marks.now result) }
 {
     let mut place = start + 1;
     while place < marks.len() && marks[place] {

@@ -1,4 +1,5 @@
 //! Reading a guest's file.
+ghost use Rattle.memory_map.specs.declared.TheConstants.{LEAST_RAM_KIB, MOST_RAM_KIB};
 ghost use Rattle.std.specs.Prelude.{◌*◌, ◌≤◌, IfOk};
 ghost use Rattle.format_model.specs.ImageFile.{image_in, ImageFits};
 ghost use Rattle.elf_image.specs.Reads.{Gives};
@@ -11,7 +12,7 @@ use std::alloc::Global;
 // The image of a file, for a RAM of so many KiB.
 #[tactic(auto, unfolding(format_model::specs::ImageFile::image_in))]
 fn image_in(alloc: Global, file: &[u8], ram_kib: u32) -> Result<Image, ImageFault>
-    requires { ram_kib ≤ 16384 }
+    requires { ram_kib ≤ MOST_RAM_KIB }
     ensures { Gives (λ i. i) result (image_in ram_kib file.now) }
 {
     let size = 1024 * ram_kib;
@@ -30,8 +31,8 @@ fn image_in(alloc: Global, file: &[u8], ram_kib: u32) -> Result<Image, ImageFaul
 /// passed over. It is looked at in this order: the length of its header, its kind, the table of program headers, each of
 /// them in turn, whether two segments share an address, whether there is one, and where the guest starts.
 pub fn read(alloc: Global, bytes: &[u8], ram_kib: u32) -> Result<Image, ImageFault>
-    requires least { 64 ≤ ram_kib }
-    requires most { ram_kib ≤ 16384 }
+    requires least { LEAST_RAM_KIB ≤ ram_kib }
+    requires most { ram_kib ≤ MOST_RAM_KIB }
     // The image or the first fault, unless there is no memory.
     ensures exact { Gives (λ i. i) result (image_in ram_kib bytes.now) }
     // The image can be loaded into such a RAM.

@@ -49,7 +49,9 @@ impl Tally {
     /// Adds the next finding. The number stops at 2^64 - 1.
     pub fn add(&mut self, finding: Finding)
         ensures effect { self.new ≡ with_finding self.old finding }
-        ensures tallied { (found : List Finding) → Tallies self.old found → Tallies self.new (found ++ finding ∷ []) }
+        ensures tallied { (found : List Finding)
+            → Tallies self.old found
+            → Tallies self.new (found ++ finding ∷ []) }
     {
         self.first = Some(self.first.unwrap_or(finding.step));
         self.count = self.count.saturating_add(1);

@@ -1,4 +1,5 @@
 -- Which bytes spell which script: line by line, what each may say and where it may stand; and the canonical text.
+use Rattle.memory_map.specs.declared.TheConstants.{MOST_STEPS}
 use Rattle.std.specs.Prelude.{◌≡◌, ℕ, ◌+◌, ◌/◌, ◌%◌, ◌<◌, ◌≤◌, ◌⊎◌, ◌==◌, nat_lt, if◌then◌else◌, List, [], ◌∷◌, ◌++◌, length, codes, decimal}
 use Rattle.std.specs.List.{flat_map, AllByRecursion}
 use Rattle.machine_model.specs.Script.{Span, Entry, Script}
@@ -13,7 +14,7 @@ pub data Line : Type 0 where
 
 -- the largest number of a step in a script, and of a sector
 abbrev pub most_steps : ℕ
-most_steps = 1000000000
+most_steps = MOST_STEPS
 
 abbrev pub most_sectors : ℕ
 most_sectors = 32767

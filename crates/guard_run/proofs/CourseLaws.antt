@@ -1,4 +1,5 @@
 -- The run of a job is the run of a course, whose replicas say of each prefix of its records what their limits say.
+use Rattle.memory_map.specs.declared.TheConstants.{MOST_STEPS}
 use Rattle.std.proofs.Common.{◌≡◌, ℕ, zero, suc, ◌+◌, ◌*◌, ◌^◌, ◌<◌, ◌≤◌, List, [], ◌∷◌, length, map, min, take, Option, Some, None, refl, sym, ap, subst, ◌∙◌, arith}
 use Rattle.std.specs.Prelude.{IsTrue, slice_get, slice_index}
 use Rattle.std.specs.List.{All}
@@ -32,7 +33,7 @@ abbrev least_of : (Kind → ℕ) → ℕ → List Kind → ℕ
 least_of f steps [] = steps
 least_of f steps (kind ∷ some) = min (f kind) (least_of f steps some)
 
-few_enough : (count steps : ℕ) → count ≤ 131 * steps + 1 → steps ≤ 1000000000 → count ≤ 2 ^ 61
+few_enough : (count steps : ℕ) → count ≤ 131 * steps + 1 → steps ≤ MOST_STEPS → count ≤ 2 ^ 61
 few_enough count steps most few = omega (arith, most, few)
 
 -- THE LIMITS OF THE REPLICAS

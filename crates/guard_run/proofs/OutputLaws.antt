@@ -1,4 +1,5 @@
 -- The items of a run: the bytes that they let go climb, each comes with the mark of its step, and there are not too many.
+use Rattle.memory_map.specs.declared.TheConstants.{MOST_STEPS}
 use Rattle.std.proofs.Common.{◌≡◌, ℕ, suc, ◌+◌, ◌*◌, ◌≤◌, Bool, true, false, cond, List, [], ◌∷◌, ◌++◌, length, map, Option, Some, None, sym, ap, subst, ◌∙◌, arith, length-append}
 use Rattle.std.specs.Prelude.{◌%◌, ◌||◌, ◌==◌, is_some}
 use Rattle.std.specs.List.{AllByRecursion}
@@ -23,19 +24,19 @@ plain_marked : (records : List Record) → AllByRecursion IsMarked (map plain_it
 plain_marked [] = tt
 plain_marked (item ∷ records) = (tt, plain_marked records)
 
-reach_marked : (n : ℕ) (byte : Option ℕ) (told : Bool) → suc n ≤ 1000000000 → AllByRecursion IsMarked (cond told (record { item = Reach (suc n); byte = byte } ∷ []) [])
+reach_marked : (n : ℕ) (byte : Option ℕ) (told : Bool) → suc n ≤ MOST_STEPS → AllByRecursion IsMarked (cond told (record { item = Reach (suc n); byte = byte } ∷ []) [])
 reach_marked n byte false le = tt
 reach_marked n (Some b) true le = let one : suc n ≡ n + 1 = omega arith in ((n, ap Reach one, omega (arith, le)), tt)
 reach_marked n None true le = (tt, tt)
 
-turns_marked : (n held : ℕ) (turns : List Turn) → n + length turns ≤ 1000000000 → AllByRecursion IsMarked (turns_items n held turns)
+turns_marked : (n held : ℕ) (turns : List Turn) → n + length turns ≤ MOST_STEPS → AllByRecursion IsMarked (turns_items n held turns)
 turns_marked n held [] le = tt
 turns_marked n held (turn ∷ turns) le =
     all_append IsMarked (turn_items n held turn) (turns_items (suc n) turn.input.lines turns)
     (all_append IsMarked (map plain_item (input_records n held turn)) (reach_items n turn.event) (plain_marked (input_records n held turn)) (reach_marked n (serial_byte turn.event) (is_some (serial_byte turn.event) || suc n % 256 == 0) (omega (arith, le))))
     (turns_marked (suc n) turn.input.lines turns (omega (arith, le)))
 
-pub items_marked : (run : Finished) → length run.turns ≤ 1000000000 → AllByRecursion IsMarked (items run)
+pub items_marked : (run : Finished) → length run.turns ≤ MOST_STEPS → AllByRecursion IsMarked (items run)
 items_marked run le = all_append IsMarked (turns_items 0 0 run.turns) (plain_item (End run.steps run.cause) ∷ []) (turns_marked 0 0 run.turns (omega (arith, le))) (tt, tt)
 
 -- THE STEPS OF THE BYTES

@@ -1,4 +1,5 @@
 -- The job that a run is asked for, and what the run is to come to.
+use Rattle.memory_map.specs.declared.TheConstants.{LEAST_RAM_KIB, MOST_RAM_KIB, MOST_STEPS}
 use Rattle.std.specs.Prelude.{◌≡◌, ℕ, ◌*◌, ◌%◌, ◌^◌, ◌≤◌, IsTrue, List, length, map, slice_get, Some}
 use Rattle.std.specs.List.{AllByRecursion, AllZip, Contains}
 use Rattle.run_events.specs.declared.finding.Kind.{Kind}
@@ -29,9 +30,9 @@ job_of asked image script disk = record {
 -- It is within the limits, has an analysis, and requires none but its own; its image was read for its RAM, and its script
 -- is one that a board plays.
 pub record IsRunnable (job : Job) : Type 0 where
-  pub least : 64 ≤ job.ram_kib
-  pub most : job.ram_kib ≤ 16384
-  pub limit : job.limit ≤ 1000000000
+  pub least : LEAST_RAM_KIB ≤ job.ram_kib
+  pub most : job.ram_kib ≤ MOST_RAM_KIB
+  pub limit : job.limit ≤ MOST_STEPS
   pub cap : IsTrue (is_cap job.cap)
   pub some : 1 ≤ length job.kinds
   pub required : AllByRecursion (Contains job.kinds) job.required

@@ -1,4 +1,5 @@
 //! The parts of a run.
+ghost use Rattle.memory_map.specs.declared.TheConstants.{LEAST_RAM_KIB, MOST_RAM_KIB};
 ghost use Rattle.std.specs.Prelude.{◌≡◌, ◌*◌, ◌%◌, ◌≤◌, IfOk, Some, length, slice_get};
 ghost use Rattle.std.specs.List.{AllByRecursion, Contains};
 ghost use Rattle.guard_run.specs.Jobs.{ArePlaces, IsRunnable, job_of};
@@ -46,8 +47,8 @@ impl Parts {
 
 // A replica for each of the chosen analyses, in their order.
 fn replicas_of(alloc: Global, job: &RunJob, image: &Image) -> Result<Vec<Replica>, NoMemory>
-    requires least { 64 ≤ job.now.ram_kib }
-    requires most { job.now.ram_kib ≤ 16384 }
+    requires least { LEAST_RAM_KIB ≤ job.now.ram_kib }
+    requires most { job.now.ram_kib ≤ MOST_RAM_KIB }
     requires loadable { IsLoadable (1024 * job.now.ram_kib) image.now.segments }
     requires aligned { image.now.entry % grain ≡ 0 }
     ensures fresh { IfOk result (λ replicas. AreFresh image.now job.now.ram_kib job.now.kinds replicas.items) }

@@ -1,4 +1,5 @@
 //! A replica: an analysis of a run, and the replay that shows it what the records say.
+ghost use Rattle.memory_map.specs.declared.TheConstants.{LEAST_RAM_KIB, MOST_RAM_KIB};
 ghost use Rattle.std.specs.Prelude.{◌≡◌, ◌*◌, ◌%◌, ◌≤◌, IfOk};
 ghost use Rattle.analysis_set.specs.Analysis.{kib_of};
 ghost use Rattle.guard_run.specs.Verdicts.{verdict_from};
@@ -33,8 +34,8 @@ impl Replica {
     /// A replica of the guest of this image and `ram_kib` KiB of RAM, with an analysis of this kind, that was given no
     /// record. It is the only call that takes memory.
     pub fn new(alloc: Global, image: &Image, ram_kib: u32, kind: Kind) -> Result<Replica, NoMemory>
-        requires least { 64 ≤ ram_kib }
-        requires most { ram_kib ≤ 16384 }
+        requires least { LEAST_RAM_KIB ≤ ram_kib }
+        requires most { ram_kib ≤ MOST_RAM_KIB }
         requires loadable { IsLoadable (1024 * ram_kib) image.now.segments }
         requires aligned { image.now.entry % grain ≡ 0 }
         ensures { IfOk result (λ replica. IsFresh image.now ram_kib kind replica) }

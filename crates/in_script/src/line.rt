@@ -12,11 +12,10 @@ use crate::hex::hex_at;
 use crate::number::{is_number, number_at, number_in};
 use crate::script::{Entry, Span, What};
 use crate::text::{after, at_space};
+use memory_map::MOST_STEPS;
 use std::alloc::Global;
 
-// The largest number of a step in a script, and of a sector of the disk.
-const MOST_STEPS: u32 = 1_000_000_000;
-
+// The largest number of a sector of the disk.
 const MOST_SECTORS: u32 = 32_767;
 
 // The most entries and spans of sectors of a script.

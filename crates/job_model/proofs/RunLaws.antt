@@ -1,4 +1,5 @@
 -- The run of a job is a run of the hart beside its board, so all holds of it that is said of such runs.
+use Rattle.memory_map.specs.declared.TheConstants.{MOST_STEPS}
 use Rattle.std.proofs.Common.{◌≡◌, ◌≤◌, true, map, refl, arith}
 use Rattle.std.specs.List.{AllByRecursion}
 use Rattle.run_events.specs.declared.item.Item.{Item}
@@ -49,5 +50,5 @@ module _ (job : Job) (marked : AreMarked job.script.entries) where
   pub job_ordered : is_ordered (log (finished job)) ≡ true
   job_ordered = log_ordered hart (first_state job) (finished job) job_runs
 
-  pub job_records : job.limit ≤ 1000000000 → AllByRecursion IsRecord (log (finished job))
+  pub job_records : job.limit ≤ MOST_STEPS → AllByRecursion IsRecord (log (finished job))
   job_records few = log_records hart (first_state job) (finished job) job_runs (omega (arith, job_within job, few))

@@ -41,7 +41,7 @@ module _ (image : Image) (ram_kib : ℕ) where
       let old = findings kind (guest_of image ram_kib) (shown hart (started image ram_kib) items) in
       let all = findings kind (guest_of image ram_kib) (shown hart (started image ram_kib) (items ++ item ∷ [])) in
       let extends : Extends (λ step. come ≤ step) old all =
-          subst (λ h. Extends (λ step. come ≤ step) old (findings kind (guest_of image ram_kib) h)) (sym on.joined)
-          (findings-extend (λ step. come ≤ step) kind (guest_of image ram_kib) (shown hart (started image ram_kib) items) on.later (all_through (λ event there. there.0) on.later on.stand)) in
+      subst (λ h. Extends (λ step. come ≤ step) old (findings kind (guest_of image ram_kib) h)) (sym on.joined)
+      (findings-extend (λ step. come ≤ step) kind (guest_of image ram_kib) (shown hart (started image ram_kib) items) on.later (all_through (λ event there. there.0) on.later on.stand)) in
       rises_by (first_step old) (first_step all) come (executed hart (started image ram_kib) (items ++ item ∷ [])) (λ step there. first_stays (λ step. come ≤ step) old all step extends there)
       (λ none. first_comes (λ step. come ≤ step) old all extends none) on.rises

@@ -1,16 +1,12 @@
 -- The locks that count, with one event more.
-use Rattle.std.proofs.Common.{◌≡◌, ◌≢◌, ℕ, ◌+◌, ◌<◌, ◌≤◌, ◌==◌, nat_lt, Bool, true, false, not, ◌||◌, cond, List, [], ◌∷◌, ◌++◌, length, map, reverse, take, filter, min, Option, None, Some, unwrap_or, refl, sym, ap, ◌∙◌, arith, inl, inr, append-nil, length-append, length-take}
-use Rattle.std.specs.List.{filter_map, cons_option, list_any}
+use Rattle.std.proofs.Common.{◌≡◌, ℕ, ◌<◌, ◌≤◌, ◌==◌, nat_lt, Bool, true, false, not, ◌||◌, cond, List, [], ◌∷◌, ◌++◌, length, reverse, take, filter, Option, None, Some, refl, ap, ◌∙◌, arith, inl, inr, append-nil, length-append, length-take}
+use Rattle.std.specs.List.{filter_map, cons_option}
 use Rattle.std.proofs.lemmas.Bool.{cases_lt, cases_eq}
 use Rattle.std.proofs.lemmas.Bool.Decides.{nat_tests}
 use Rattle.std.proofs.lemmas.List.{reverse-append, take_all, take-append-le, length-map, map-append}
 use Rattle.std.proofs.lemmas.List.Elements.{filter_map-append, filter-append}
-use Rattle.run_events.specs.declared.announcement.Announcement.{Announcement}
-use Rattle.run_events.specs.declared.announcement.Announcement.TheVariants.{Allocate, Free, Acquire, Release, Enter, Check, Guard}
 use Rattle.run_events.specs.declared.event.Event.{Event}
-use Rattle.run_events.specs.Announcement.{announced}
-use Rattle.analysis_model.specs.Context.{context_after}
-use Rattle.analysis_model.specs.Locks.{named, named_by, firsts, counted, has_lock, holder_by, holder_after, locks_kept}
+use Rattle.analysis_model.specs.Locks.{named, firsts, counted, has_lock, locks_kept}
 use Rattle.lock_rules.specs.declared.lock.Lock.{Lock}
 use Rattle.lock_rules.specs.Entries.{numbers}
 use Rattle.lock_rules.specs.State.{known_with}

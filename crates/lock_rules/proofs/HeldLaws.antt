@@ -1,6 +1,6 @@
 -- Who holds which lock, with one event more.
-use Rattle.std.proofs.Common.{◌≡◌, ℕ, zero, suc, ◌+◌, ◌<◌, ◌==◌, nat_lt, Bool, true, false, not, ◌&&◌, ◌||◌, cond, List, [], ◌∷◌, ◌++◌, length, map, get_or, Option, None, Some, unwrap_or, refl, sym, ap, ◌∙◌, arith, inl, inr, length-append}
-use Rattle.std.specs.List.{AllByRecursion, list_any}
+use Rattle.std.proofs.Common.{◌≡◌, ℕ, zero, suc, ◌<◌, ◌==◌, nat_lt, Bool, true, false, not, ◌&&◌, ◌||◌, cond, List, [], ◌∷◌, ◌++◌, length, map, get_or, Option, None, Some, unwrap_or, refl, sym, ap, ◌∙◌, arith, inl, inr, length-append}
+use Rattle.std.specs.List.{AllByRecursion}
 use Rattle.std.proofs.lemmas.Bool.{cases_eq}
 use Rattle.std.proofs.lemmas.Bool.Decides.{nat_tests}
 use Rattle.std.proofs.lemmas.List.{length-map}
@@ -10,7 +10,6 @@ use Rattle.run_events.specs.declared.event.Event.{Event}
 use Rattle.run_events.specs.Announcement.{announced}
 use Rattle.analysis_model.specs.Context.{context_after}
 use Rattle.analysis_model.specs.Locks.{named, named_by, counted, has_lock, is_held_by, acquire_by, bad_release, lock_by, holder_by, holder_after, locks_kept}
-use Rattle.analysis_model.specs.Look.{Complaint}
 use Rattle.lock_rules.specs.declared.lock.Lock.{Lock}
 use Rattle.lock_rules.specs.Entries.{numbers, holder_of, holder_at, with_holder}
 use Rattle.lock_rules.specs.State.{AreHeld, known_with, held_after}

@@ -1,35 +1,31 @@
 -- What the analysis stands for, with one event more.
-use Rattle.std.proofs.Common.{◌≡◌, ℕ, ◌<◌, List, [], ◌∷◌, ◌++◌, length, map, reverse, take, Option, None, Some, unwrap_or, refl, sym, ap, ◌∙◌, subst, arith}
+use Rattle.std.proofs.Common.{◌≡◌, ℕ, List, [], ◌∷◌, ◌++◌, length, map, reverse, take, Option, None, Some, unwrap_or, refl, sym, ap, ◌∙◌, subst}
 use Rattle.std.specs.List.{cons_option}
 use Rattle.std.specs.Option.{option_map, option_or}
 use Rattle.std.proofs.lemmas.List.{length-map}
-use Rattle.list_laws.specs.Least.{least_from}
 use Rattle.list_laws.proofs.LeastLaws.{least_same}
 use Rattle.list_laws.proofs.ReverseLaws.{reverse-last}
 use Rattle.run_events.specs.declared.access.Access.{Access}
-use Rattle.run_events.specs.declared.announcement.Announcement.{Announcement}
 use Rattle.run_events.specs.declared.event.Event.{Event}
 use Rattle.run_events.specs.declared.event.Event.TheVariants.{Dma, Irq, Trap, Exec}
-use Rattle.run_events.specs.declared.finding.Finding.{Finding}
 use Rattle.run_events.specs.Access.{touched_from, touched_len}
 use Rattle.run_events.specs.declared.finding.Kind.TheVariants as kind
 use Rattle.run_events.specs.Announcement.{announced_by, announced}
 use Rattle.analysis_model.specs.Complaints.{findings}
 use Rattle.analysis_model.specs.Context.{entered, context_after}
-use Rattle.analysis_model.specs.Locks.{Guarded, named, named_by, counted, has_lock, guard_at, guard_by, guards, holder_after, is_unguarded, bad_access, lock_by, access_by, locks, locks_kept}
+use Rattle.analysis_model.specs.Locks.{named, counted, has_lock, guard_at, guard_by, guards, holder_after, is_unguarded, bad_access, lock_by, access_by, locks, locks_kept}
 use Rattle.analysis_model.specs.Look.{Complaint, told_at, finding_at, finding_of, found_at}
 use Rattle.analysis_model.proofs.ContextLaws.{context-more}
 use Rattle.analysis_model.proofs.LookLaws.{told_at-more}
 use Rattle.std.proofs.lemmas.List.{reverse-reverse}
-use Rattle.finding_tally.specs.Tallied.{Tallied, Tallies, tallied, tallied_with}
+use Rattle.finding_tally.specs.Tallied.{tallied, tallied_with}
 use Rattle.finding_tally.proofs.TalliedLaws.{tallied_with-more}
 use Rattle.lock_rules.specs.declared.lock.Lock.{Lock}
-use Rattle.lock_rules.specs.declared.guard.Guard.{Guard}
 use Rattle.lock_rules.specs.Entries.{numbers, holder_of, is_open, range_of}
 use Rattle.lock_rules.specs.State.{LockState, Stands, AreHeld, guest_now, known_with, known_after, held_after, guards_after, told_state, heard, opened, noted, after}
 use Rattle.lock_rules.proofs.CountedLaws.{counted_with, counted-more, numbers-known}
 use Rattle.lock_rules.proofs.HeldLaws.{AreHeldNow, held-known, held-after, numbers-held, held-of, lock_by-same}
-use Rattle.lock_rules.proofs.GuardLaws.{ArePlaced, open-unguarded, ranges-known, ranges-after, placed-after}
+use Rattle.lock_rules.proofs.GuardLaws.{open-unguarded, ranges-known, ranges-after, placed-after}
 
 -- what there is to complain of an event
 abbrev complaint_now : LockState → Event → Option Complaint

@@ -1,4 +1,5 @@
 //! The analysis of locks.
+ghost use Rattle.memory_map.specs.declared.TheConstants.{LEAST_RAM_KIB, MOST_RAM_KIB};
 ghost use Rattle.std.specs.Prelude.{◌≡◌, ℕ, ◌*◌, ◌<◌, ◌≤◌, List, [], ◌∷◌, ◌++◌, length, map, Option, None, Some, IfOk};
 ghost use Rattle.std.specs.Option.{option_map};
 ghost use Rattle.std.specs.List.{position_from};
@@ -63,8 +64,8 @@ impl Locks {
     /// Nothing seen yet, of a guest with `ram_kib` KiB of RAM; its image tells nothing of locks. It is the only call that
     /// takes memory.
     pub fn new(alloc: Global, _image: &Image, ram_kib: u32) -> Result<Locks, NoMemory>
-        requires least { 64 ≤ ram_kib }
-        requires most { ram_kib ≤ 16384 }
+        requires least { LEAST_RAM_KIB ≤ ram_kib }
+        requires most { ram_kib ≤ MOST_RAM_KIB }
         ensures seen { IfOk result (λ l. Stands l []) }
         ensures size { IfOk result (λ l. l.ram_kib ≡ ram_kib) }
         ensures made { IfOk result (λ l. make_now l ≡ make_of kind.Locks _image.now) }
@@ -169,7 +170,8 @@ impl Locks {
     }
 
     fn acquire(&mut self, step: u32, pc: u32, lock: u32) -> Option<Finding>
-        ensures finding { result ≡ option_map (finding_at step pc) (heard self.old (Some (announce.Acquire lock))) }
+        ensures finding { result
+            ≡ option_map (finding_at step pc) (heard self.old (Some (announce.Acquire lock))) }
         ensures state { self.new ≡ told_state self.old (Some (announce.Acquire lock)) }
     {
         self.name(lock);
@@ -188,7 +190,8 @@ impl Locks {
     }
 
     fn release(&mut self, step: u32, pc: u32, lock: u32) -> Option<Finding>
-        ensures finding { result ≡ option_map (finding_at step pc) (heard self.old (Some (announce.Release lock))) }
+        ensures finding { result
+            ≡ option_map (finding_at step pc) (heard self.old (Some (announce.Release lock))) }
         ensures state { self.new ≡ told_state self.old (Some (announce.Release lock)) }
     {
         self.name(lock);
@@ -218,7 +221,8 @@ impl Locks {
 
     #[tactic(auto, unfolding(analysis_model::specs::Locks::locks_kept))]
     fn add_guard(&mut self, start: u32, size: u32, place: usize)
-        ensures { self.new ≡ record self.old { guards = guards_with self.old.guards start size (Some place) } }
+        ensures { self.new
+            ≡ record self.old { guards = guards_with self.old.guards start size (Some place) } }
     {
         if self.guards.len() < KEPT {
             self.guards.push_reserved(Guard {

@@ -1,4 +1,5 @@
-//! Where RAM and the device registers of the board lie, where instructions begin, and the name for no memory.
+//! Where RAM and the device registers of the board lie, where instructions begin, how large a machine and how long its
+//! run may be, and the name for no memory.
 #![tactic(auto)]
 
 mod device;
@@ -11,6 +12,14 @@ pub type NoMemory = AllocError;
 
 /// An instruction begins at a multiple of this many bytes. (Unprivileged manual, 1.5.)
 pub const GRAIN: u32 = 4;
+
+/// The most steps of a run; the largest number of a record.
+pub const MOST_STEPS: u32 = 1_000_000_000;
+
+/// The sizes that RAM may have, in KiB.
+pub const LEAST_RAM_KIB: u32 = 64;
+
+pub const MOST_RAM_KIB: u32 = 16_384;
 
 /// The address of RAM's first byte.
 pub const RAM_START: u32 = 0x8000_0000;

@@ -1,4 +1,5 @@
 -- What each call keeps true of a gate.
+use Rattle.memory_map.specs.declared.TheConstants.{MOST_STEPS}
 use Rattle.std.proofs.Common.{◌≡◌, ℕ, ◌+◌, ◌-◌, ◌<◌, ◌≤◌, false, nat_eq, List, [], ◌∷◌, ◌++◌, length, take, drop, Option, None, Some, arith, refl}
 use Rattle.std.specs.Prelude.{IfSome}
 use Rattle.std.proofs.lemmas.List.{length-drop, length-take-le, length_push}
@@ -17,8 +18,8 @@ keep_last-room items item room less =
     rw none refl
 
 -- the waiting steps of every gate, under bounds that no field moves
-pub order-bounds : (g : GateState) → IsGate g → g.failed ≡ false → Climbs 0 g.steps 1000000000
-order-bounds g is sound = Climbs-wider g.steps g.passed 0 g.next 1000000000 (omega arith) is.within (is.order sound)
+pub order-bounds : (g : GateState) → IsGate g → g.failed ≡ false → Climbs 0 g.steps MOST_STEPS
+order-bounds g is sound = Climbs-wider g.steps g.passed 0 g.next MOST_STEPS (omega arith) is.within (is.order sound)
 
 -- a step that is not withheld is below the one from which on all is
 push-below : (from : Option ℕ) (steps : List ℕ) (low high step : ℕ) → is_withheld from step ≡ false → Climbs low steps high → high ≤ step → IfSome from (λ f. Climbs low (steps ++ step ∷ []) f)
@@ -35,7 +36,7 @@ take-below (Some f) steps low high step was climbs l =
     Climbs-min (take (count_below step steps) steps) low f step (Climbs-take (count_below step steps) steps low f was) (Climbs-below steps low high step climbs l)
 
 -- one byte more waits
-pub wait-IsGate : (g : GateState) (step byte : ℕ) → IsGate g → g.failed ≡ false → length g.steps < 4096 → g.next ≤ step → step < 1000000000 → is_withheld g.from step ≡ false
+pub wait-IsGate : (g : GateState) (step byte : ℕ) → IsGate g → g.failed ≡ false → length g.steps < 4096 → g.next ≤ step → step < MOST_STEPS → is_withheld g.from step ≡ false
     → IsGate (record g { steps = g.steps ++ step ∷ []; bytes = g.bytes ++ byte ∷ []; issued = g.issued + 1; next = step + 1 })
 wait-IsGate g step byte was sound room rises within other =
     let steps : length (g.steps ++ step ∷ []) ≡ length g.steps + 1 = length_push g.steps step in
@@ -51,7 +52,7 @@ wait-IsGate g step byte was sound room rises within other =
     }
 
 -- one byte more is withheld
-pub withheld-IsGate : (g : GateState) (step : ℕ) → IsGate g → g.next ≤ step → step < 1000000000
+pub withheld-IsGate : (g : GateState) (step : ℕ) → IsGate g → g.next ≤ step → step < MOST_STEPS
     → IsGate (record g { issued = g.issued + 1; withheld = g.withheld + 1; next = step + 1 })
 withheld-IsGate g step was rises within = record {
   few = was.few;

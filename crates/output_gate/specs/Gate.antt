@@ -1,4 +1,5 @@
 -- What a gate holds, and what each call makes of it.
+use Rattle.memory_map.specs.declared.TheConstants.{MOST_STEPS}
 use Rattle.std.specs.Prelude.{◌≡◌, ℕ, ◌+◌, ◌-◌, ◌≤◌, ◌==◌, Bool, true, false, nat_le, nat_lt, if◌then◌else◌, List, [], ◌∷◌, ◌++◌, length, take, drop, filter, min, Option, Some, None, IfSome}
 
 -- the steps and the bytes that wait, first in first; how many bytes were issued, released and withheld; one more than the
@@ -26,7 +27,7 @@ pub record IsGate (g : GateState) : Type 0 where
   pub paired : length g.bytes ≡ length g.steps
   pub counted : g.issued ≡ g.released + length g.steps + g.withheld
   pub rising : g.issued ≤ g.next
-  pub within : g.next ≤ 1000000000
+  pub within : g.next ≤ MOST_STEPS
   pub order : g.failed ≡ false → Climbs g.passed g.steps g.next
   pub below : g.failed ≡ false → IfSome g.from (λ from. Climbs g.passed g.steps from)
 

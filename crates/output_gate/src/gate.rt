@@ -1,4 +1,5 @@
 //! The gate: bytes that wait for their steps.
+ghost use Rattle.memory_map.specs.declared.TheConstants.{MOST_STEPS};
 ghost use Rattle.std.specs.Prelude.{◌≡◌, ◌+◌, ◌<◌, ◌≤◌, false, length, take, drop, is_err, IfOk, OnOk, OnErr};
 ghost use Rattle.after_edge.specs.Sink.{Writes, WritesPart};
 ghost use Rattle.circular_buffer.specs.Buffer.{buffer};
@@ -69,7 +70,7 @@ impl OutputGate {
     pub fn issue(&mut self, step: u32, byte: u8) -> Result<(), GateFull>
         requires sound { self.old.failed ≡ false }
         requires rises { self.old.next ≤ step }
-        requires within { step < 1000000000 }
+        requires within { step < MOST_STEPS }
         ensures full { is_err result ≡ is_full self.old }
         ensures after { self.new ≡ with_issue self.old step byte }
     {
@@ -193,7 +194,7 @@ fn least_from(before: Option<u32>, from: u32) -> u32
 
 // How many of the steps are below this one: as they rise, the place of the first that is not.
 fn count_below(below: u32, steps: &HeapCircularBuffer<u32>) -> usize
-    requires { Climbs 0 steps.now.items 1000000000 }
+    requires { Climbs 0 steps.now.items MOST_STEPS }
     ensures count { result ≡ count_below below steps.now.items }
     ensures within { result ≤ length steps.now.items }
 {
@@ -208,7 +209,7 @@ fn count_below(below: u32, steps: &HeapCircularBuffer<u32>) -> usize
 
 // One more than the last of the first steps, or what it was before them.
 fn end_of(before: u32, steps: &HeapCircularBuffer<u32>, count: usize) -> u32
-    requires climbs { Climbs 0 steps.now.items 1000000000 }
+    requires climbs { Climbs 0 steps.now.items MOST_STEPS }
     requires within { count ≤ length steps.now.items }
     ensures { result ≡ behind before (take count steps.now.items) }
 {

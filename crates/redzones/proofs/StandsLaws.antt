@@ -2,7 +2,7 @@
 use Rattle.std.proofs.Common.{◌≡◌, ℕ, ◌+◌, ◌*◌, ◌^◌, ◌<◌, ◌≤◌, true, cond, List, [], ◌∷◌, ◌++◌, length, reverse, unwrap_or, sym, ap, ◌∙◌, arith}
 use Rattle.std.specs.Option.{option_map}
 use Rattle.std.proofs.lemmas.Bool.Decides.{nat_tests}
-use Rattle.memory_map.specs.declared.TheConstants.{RAM_START}
+use Rattle.memory_map.specs.declared.TheConstants.{MOST_RAM_KIB, RAM_START}
 use Rattle.memory_map.specs.Ram.{InRam, in_ram}
 use Rattle.list_laws.proofs.LeastLaws.{is_between-yes}
 use Rattle.list_laws.proofs.ReverseLaws.{reverse-last}
@@ -48,14 +48,14 @@ Stands-more z event h fits stands = record {
 }
 
 -- at first each byte of RAM is plain
-plain_at : (old : Shade) (kib most address : ℕ) → kib ≤ 16384 → 2 ^ 32 ≤ most → length old.bytes ≡ 1024 * kib → has_byte old address ≡ true → use_in (painted old 0 most PLAIN) address ≡ Plain
+plain_at : (old : Shade) (kib most address : ℕ) → kib ≤ MOST_RAM_KIB → 2 ^ 32 ≤ most → length old.bytes ≡ 1024 * kib → has_byte old address ≡ true → use_in (painted old 0 most PLAIN) address ≡ Plain
 plain_at old kib most address small far whole there =
     let low : RAM_START ≤ address = grind (arith, there) in
     let high : address < RAM_START + length old.bytes = grind (arith, there) in
     let inside : covers 0 most address ≡ true = is_between-yes 0 most address (omega arith) (omega (arith, high, whole, small, far)) in
     ap use_coded (painted-at old 0 most PLAIN address there ∙ ap (λ b. cond b PLAIN (shade old address)) inside)
 
-pub Stands_new : (old new : Shade) (kib most : ℕ) (found : Tallied) → kib ≤ 16384 → 2 ^ 32 ≤ most → length old.bytes ≡ 1024 * kib → new ≡ painted old 0 most PLAIN → Tallies found []
+pub Stands_new : (old new : Shade) (kib most : ℕ) (found : Tallied) → kib ≤ MOST_RAM_KIB → 2 ^ 32 ≤ most → length old.bytes ≡ 1024 * kib → new ≡ painted old 0 most PLAIN → Tallies found []
     → Stands (record { ram_kib = kib; shade = new; found = found }) []
 Stands_new old new kib most found small far whole is tallies = record {
   whole = length_painted old new 0 most PLAIN is ∙ whole;

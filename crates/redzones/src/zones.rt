@@ -1,4 +1,5 @@
 //! The uses of bytes, as a shadow of RAM.
+ghost use Rattle.memory_map.specs.declared.TheConstants.{LEAST_RAM_KIB, MOST_RAM_KIB};
 ghost use Rattle.std.specs.Prelude.{◌≡◌, ℕ, ◌*◌, not, ◌≤◌, List, [], ◌∷◌, ◌++◌, length, IfOk};
 ghost use Rattle.std.specs.Option.{option_map, option_or};
 ghost use Rattle.list_laws.specs.Least.{least_from};
@@ -74,8 +75,8 @@ impl Redzones {
     /// memory.
     #[tactic(auto, using(shadow_state::proofs::SizeLaws::length_painted))]
     pub fn new(alloc: Global, image: &Image, ram_kib: u32) -> Result<Redzones, NoMemory>
-        requires least { 64 ≤ ram_kib }
-        requires most { ram_kib ≤ 16384 }
+        requires least { LEAST_RAM_KIB ≤ ram_kib }
+        requires most { ram_kib ≤ MOST_RAM_KIB }
         ensures seen { IfOk result (λ z. Stands z []) }
         ensures size { IfOk result (λ z. z.ram_kib ≡ ram_kib) }
         ensures made { IfOk result (λ z. make_now z ≡ make_of kind.Heap image.now) }
@@ -174,7 +175,8 @@ impl Redzones {
     }
 
     fn first_not_live(&self, from: u64, to: u64) -> Option<u32>
-        ensures { result ≡ least_in_ram self.now.ram_kib (λ a. not (is_live (use_in self.now.shade a))) from to }
+        ensures { result
+            ≡ least_in_ram self.now.ram_kib (λ a. not (is_live (use_in self.now.shade a))) from to }
     {
         self.shadow.first_of(from, to, NOT_LIVE)
     }

@@ -14,6 +14,7 @@ pub struct Replay {
 }
 
 impl Replay {
+    ghost use Rattle.memory_map.specs.declared.TheConstants.{LEAST_RAM_KIB, MOST_RAM_KIB};
     ghost use Rattle.std.specs.Prelude.{◌≡◌, ◌*◌, ◌%◌, ◌≤◌, ◌++◌, [], ◌∷◌, List, IfOk, IsTrue, is_some};
     ghost use Rattle.run_events.specs.declared.event.Event.{Event as Shown};
     ghost use Rattle.run_events.specs.declared.record.Record.{Record as Item};
@@ -31,8 +32,8 @@ impl Replay {
     /// A replay that was fed nothing, of a guest with this image and `ram_kib` KiB of RAM. It is the only call that
     /// takes memory.
     pub fn new(alloc: Global, image: &Image, ram_kib: u32) -> Result<Replay, NoMemory>
-        requires least { 64 ≤ ram_kib }
-        requires most { ram_kib ≤ 16384 }
+        requires least { LEAST_RAM_KIB ≤ ram_kib }
+        requires most { ram_kib ≤ MOST_RAM_KIB }
         requires loadable { IsLoadable (1024 * ram_kib) image.now.segments }
         requires entry { image.now.entry % grain ≡ 0 }
         ensures replays { IfOk result (λ replay. Replays (started image.now ram_kib) [] replay) }

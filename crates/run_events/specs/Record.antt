@@ -1,4 +1,5 @@
 -- Which records there are, and in which order they may stand.
+use Rattle.memory_map.specs.declared.TheConstants.{MOST_STEPS}
 use Rattle.std.specs.Prelude.{◌≡◌, ℕ, ◌+◌, ◌≤◌, Bool, true, false, not, ◌&&◌, ◌||◌, ◌==◌, nat_lt, List, [], ◌∷◌, reverse, Option, None, Some, if◌then◌else◌}
 use Rattle.run_events.specs.declared.record.Record.{Record}
 use Rattle.run_events.specs.declared.record.Record.TheVariants.{Load, Lines, Dma, Reach, End}
@@ -13,7 +14,7 @@ number (End step cause) = step
 
 -- the largest number of a record
 abbrev pub IsNumber : ℕ → Type 0
-IsNumber step = step ≤ 1000000000
+IsNumber step = step ≤ MOST_STEPS
 
 -- 0 is unmarked
 abbrev pub IsMark : ℕ → Type 0

@@ -3,9 +3,7 @@ ghost use Rattle.std.specs.Prelude.{◌≡◌, ◌↔◌, IsTrue};
 ghost use Rattle.run_events.specs.Record as order;
 
 use crate::Record;
-
-// The largest number of a record.
-const LAST_NUMBER: u32 = 1_000_000_000;
+use memory_map::MOST_STEPS;
 
 /// The number of a record.
 pub fn number(r: &Record) -> u32
@@ -39,10 +37,10 @@ pub fn is_record(r: &Record) -> bool
 {
     match r {
         Record::Load { step, mark, .. } | Record::Dma { step, mark, .. } => {
-            *step <= LAST_NUMBER && *mark <= 1
+            *step <= MOST_STEPS && *mark <= 1
         }
-        Record::Lines { step, bits } => *step <= LAST_NUMBER && *bits <= 3,
-        Record::Reach { step } => *step <= LAST_NUMBER,
-        Record::End { step, .. } => *step <= LAST_NUMBER,
+        Record::Lines { step, bits } => *step <= MOST_STEPS && *bits <= 3,
+        Record::Reach { step } => *step <= MOST_STEPS,
+        Record::End { step, .. } => *step <= MOST_STEPS,
     }
 }

@@ -1,4 +1,5 @@
 //! What the files of a run give it.
+ghost use Rattle.memory_map.specs.declared.TheConstants.{LEAST_RAM_KIB, MOST_RAM_KIB};
 ghost use Rattle.std.specs.Prelude.{◌≡◌, ◌*◌, ◌≤◌, Ok, IfOk, IfErr, length, option_copied};
 ghost use Rattle.format_model.specs.ImageFile.{ImageFits};
 ghost use Rattle.machine_model.specs.Board.{AreMarked, IsPlayable};
@@ -25,8 +26,8 @@ pub struct Inputs {
 // What the bytes of the files give: the image is judged before the script.
 #[tactic(auto, unfolding(crate::specs::Given::given_in))]
 fn judge(alloc: Global, bytes: FileBytes, ram_kib: u32) -> Result<Inputs, InputFault>
-    requires least { 64 ≤ ram_kib }
-    requires most { ram_kib ≤ 16384 }
+    requires least { LEAST_RAM_KIB ≤ ram_kib }
+    requires most { ram_kib ≤ MOST_RAM_KIB }
     requires short { length bytes.script.items ≤ script_max }
     ensures judged { IsJudgedAs (given_in ram_kib (bytes_of bytes)) result }
     ensures fits { IfOk result (λ inputs. ImageFits (1024 * ram_kib) inputs.image) }
@@ -65,8 +66,8 @@ pub fn read_inputs<F: Files>(
     disk: Option<&str>,
     ram_kib: u32,
 ) -> Result<Inputs, InputFault>
-    requires least { 64 ≤ ram_kib }
-    requires most { ram_kib ≤ 16384 }
+    requires least { LEAST_RAM_KIB ≤ ram_kib }
+    requires most { ram_kib ≤ MOST_RAM_KIB }
 
     // What the files give, by the definitions of images and scripts, or the first fault, unless there was no memory.
     ensures ok { IfOk result (λ inputs. Comes (inputs_in ram_kib) (F.content files.old)

@@ -3,3 +3,4 @@ pub mod Midway
 pub mod Plain
 pub mod PlainRun
 pub mod Sized
+pub mod Sound

@@ -5,7 +5,8 @@ ghost use Rattle.rv_decode.specs.Valid.{IsRegister};
 ghost use Rattle.memory_map.specs.Device.{is_device};
 ghost use Rattle.hart_model.specs.Effect as model;
 ghost use Rattle.hart_model.specs.Effect.{Raises};
-ghost use Rattle.hart_model.specs.Operations.{load_width, store_width};
+ghost use Rattle.hart_model.specs.Operations.{load_width, store_width, sum};
+ghost use Rattle.hart_model.specs.State.{register};
 ghost use Rattle.rv_cpu.specs.Midway.{at, midway, plainly};
 
 use crate::alu;
@@ -88,17 +89,38 @@ impl Engine {
         }
     }
 
-    /// Loads from RAM; where the address is misaligned or elsewhere, nothing.
+    // Loads from RAM; where the address is misaligned or elsewhere, nothing.
     #[inline(always)]
-    pub fn load_plainly(&mut self, size: u32, op: LoadOp, rd: u32, address: u32) -> Done
-        requires { IsRegister rd }
+    fn try_load(&mut self, size: u32, op: LoadOp, rd: u32, rs1: u32, offset: u32) -> Done
+        requires rd { IsRegister rd }
+        requires rs1 { IsRegister rs1 }
         ensures { at size result self.new
-            ≡ plainly self.old (model.loading self.old None size op rd address) }
+            ≡ plainly self.old
+            (model.loading self.old None size op rd (sum (register self.old rs1) offset)) }
     {
+        let address = self.register(rs1).wrapping_add(offset);
         if self.has_aligned(address, alu::load_width(op)) {
             self.load_ram(size, op, rd, address)
         } else {
             Done::Other
+        }
+    }
+
+    /// Loads from RAM; where the address is misaligned or elsewhere, nothing.
+    #[inline(always)]
+    pub fn load_plainly(&mut self, size: u32, op: LoadOp, rd: u32, rs1: u32, offset: u32) -> Done
+        requires rd { IsRegister rd }
+        requires rs1 { IsRegister rs1 }
+        ensures { at size result self.new
+            ≡ plainly self.old
+            (model.loading self.old None size op rd (sum (register self.old rs1) offset)) }
+    {
+        match op {
+            LoadOp::Lb => self.try_load(size, LoadOp::Lb, rd, rs1, offset),
+            LoadOp::Lh => self.try_load(size, LoadOp::Lh, rd, rs1, offset),
+            LoadOp::Lw => self.try_load(size, LoadOp::Lw, rd, rs1, offset),
+            LoadOp::Lbu => self.try_load(size, LoadOp::Lbu, rd, rs1, offset),
+            LoadOp::Lhu => self.try_load(size, LoadOp::Lhu, rd, rs1, offset),
         }
     }
 
@@ -181,16 +203,38 @@ impl Engine {
         }
     }
 
-    /// Stores to RAM; where the address is misaligned or elsewhere, nothing.
+    // Stores to RAM; where the address is misaligned or elsewhere, nothing.
     #[inline(always)]
-    pub fn store_plainly(&mut self, size: u32, op: StoreOp, value: u32, address: u32) -> Done
+    fn try_store(&mut self, size: u32, op: StoreOp, rs2: u32, rs1: u32, offset: u32) -> Done
+        requires rs2 { IsRegister rs2 }
+        requires rs1 { IsRegister rs1 }
         ensures { at size result self.new
-            ≡ plainly self.old (model.storing self.old size op value address) }
+            ≡ plainly self.old
+            (model.storing self.old size op (register self.old rs2)
+            (sum (register self.old rs1) offset)) }
     {
+        let address = self.register(rs1).wrapping_add(offset);
         if self.has_aligned(address, alu::store_width(op)) {
-            self.store_ram(size, op, value, address)
+            self.store_ram(size, op, self.register(rs2), address)
         } else {
             Done::Other
+        }
+    }
+
+    /// Stores to RAM; where the address is misaligned or elsewhere, nothing.
+    #[inline(always)]
+    pub fn store_plainly(&mut self, size: u32, op: StoreOp, rs2: u32, rs1: u32, offset: u32) -> Done
+        requires rs2 { IsRegister rs2 }
+        requires rs1 { IsRegister rs1 }
+        ensures { at size result self.new
+            ≡ plainly self.old
+            (model.storing self.old size op (register self.old rs2)
+            (sum (register self.old rs1) offset)) }
+    {
+        match op {
+            StoreOp::Sb => self.try_store(size, StoreOp::Sb, rs2, rs1, offset),
+            StoreOp::Sh => self.try_store(size, StoreOp::Sh, rs2, rs1, offset),
+            StoreOp::Sw => self.try_store(size, StoreOp::Sw, rs2, rs1, offset),
         }
     }
 

@@ -1,9 +1,12 @@
 //! Plain steps without events: the pc is kept beside the hart, and the counters rise once, at the end.
+ghost use Rattle.memory_map.specs.declared.TheConstants.{MOST_STEPS};
 ghost use Rattle.std.specs.Prelude.{◌≡◌, ℕ, ◌+◌, ◌<◌, ◌≤◌, None, IsTrue, false, if◌then◌else◌};
 ghost use Rattle.rv_decode.specs.Valid.{IsRegister, IsValid};
 ghost use Rattle.hart_model.specs.Effect as model;
 ghost use Rattle.hart_model.specs.Effect.{Does};
 ghost use Rattle.hart_model.specs.Fetch.{fetched};
+ghost use Rattle.hart_model.specs.Operations.{sum};
+ghost use Rattle.hart_model.specs.State.{register};
 ghost use Rattle.rv_cpu.specs.Batch.{caught_up, counted_times, from, goes, goes_by, goes_fetched, goes_plainly, going};
 ghost use Rattle.rv_cpu.specs.Plain.{is_plain};
 ghost use Rattle.rv_cpu.specs.PlainRun.{are_plain, plain_after};
@@ -74,12 +77,22 @@ impl Engine {
 
     // Loads from RAM.
     #[inline(always)]
-    fn fetch(&mut self, size: u32, pc: u32, op: LoadOp, rd: u32, address: u32) -> Option<u32>
-        requires { IsRegister rd }
+    fn fetch_as(
+        &mut self,
+        size: u32,
+        pc: u32,
+        op: LoadOp,
+        rd: u32,
+        rs1: u32,
+        offset: u32,
+    ) -> Option<u32>
+        requires rd { IsRegister rd }
+        requires rs1 { IsRegister rs1 }
         ensures { going result (from self.new pc)
             ≡ goes_plainly (from self.old pc)
-            (model.loading (from self.old pc) None size op rd address) }
+            (model.loading (from self.old pc) None size op rd (sum (register self.old rs1) offset)) }
     {
+        let address = self.register(rs1).wrapping_add(offset);
         let width = alu::load_width(op);
         if !self.has_aligned(address, width) {
             return None;
@@ -88,19 +101,79 @@ impl Engine {
         self.give(size, pc, rd, alu::loaded(op, value))
     }
 
-    // Stores to RAM.
     #[inline(always)]
-    fn keep(&mut self, size: u32, pc: u32, op: StoreOp, value: u32, address: u32) -> Option<u32>
+    fn fetch(
+        &mut self,
+        size: u32,
+        pc: u32,
+        op: LoadOp,
+        rd: u32,
+        rs1: u32,
+        offset: u32,
+    ) -> Option<u32>
+        requires rd { IsRegister rd }
+        requires rs1 { IsRegister rs1 }
         ensures { going result (from self.new pc)
             ≡ goes_plainly (from self.old pc)
-            (model.storing (from self.old pc) size op value address) }
+            (model.loading (from self.old pc) None size op rd (sum (register self.old rs1) offset)) }
     {
+        match op {
+            LoadOp::Lb => self.fetch_as(size, pc, LoadOp::Lb, rd, rs1, offset),
+            LoadOp::Lh => self.fetch_as(size, pc, LoadOp::Lh, rd, rs1, offset),
+            LoadOp::Lw => self.fetch_as(size, pc, LoadOp::Lw, rd, rs1, offset),
+            LoadOp::Lbu => self.fetch_as(size, pc, LoadOp::Lbu, rd, rs1, offset),
+            LoadOp::Lhu => self.fetch_as(size, pc, LoadOp::Lhu, rd, rs1, offset),
+        }
+    }
+
+    // Stores to RAM.
+    #[inline(always)]
+    fn keep_as(
+        &mut self,
+        size: u32,
+        pc: u32,
+        op: StoreOp,
+        rs2: u32,
+        rs1: u32,
+        offset: u32,
+    ) -> Option<u32>
+        requires rs2 { IsRegister rs2 }
+        requires rs1 { IsRegister rs1 }
+        ensures { going result (from self.new pc)
+            ≡ goes_plainly (from self.old pc)
+            (model.storing (from self.old pc) size op (register self.old rs2) (sum (register self.old rs1) offset)) }
+    {
+        let address = self.register(rs1).wrapping_add(offset);
         let width = alu::store_width(op);
         if !self.has_aligned(address, width) {
             return None;
         }
-        self.ram.store(address, width, low_bytes(width, value));
+        let value = low_bytes(width, self.register(rs2));
+        self.ram.store(address, width, value);
         self.give(size, pc, 0, 0)
+    }
+
+    #[inline(always)]
+    fn keep(
+        &mut self,
+        size: u32,
+        pc: u32,
+        op: StoreOp,
+        rs2: u32,
+        rs1: u32,
+        offset: u32,
+    ) -> Option<u32>
+        requires rs2 { IsRegister rs2 }
+        requires rs1 { IsRegister rs1 }
+        ensures { going result (from self.new pc)
+            ≡ goes_plainly (from self.old pc)
+            (model.storing (from self.old pc) size op (register self.old rs2) (sum (register self.old rs1) offset)) }
+    {
+        match op {
+            StoreOp::Sb => self.keep_as(size, pc, StoreOp::Sb, rs2, rs1, offset),
+            StoreOp::Sh => self.keep_as(size, pc, StoreOp::Sh, rs2, rs1, offset),
+            StoreOp::Sw => self.keep_as(size, pc, StoreOp::Sw, rs2, rs1, offset),
+        }
     }
 
     // Does a plain instruction at a pc, and answers where it goes on; of another one, nothing. (Unprivileged manual,
@@ -122,19 +195,17 @@ impl Engine {
                 self.leap(size, pc, rd, sum - sum % 2)
             }
             Instr::Branch { op, rs1, rs2, imm } => {
-                let taken = alu::takes_branch(op, self.register(rs1), self.register(rs2));
+                let taken = self.takes_branch(op, rs1, rs2);
                 self.fork(size, pc, taken, pc.wrapping_add(imm.cast_unsigned()))
             }
             Instr::Load { op, rd, rs1, imm } => {
-                let address = self.register(rs1).wrapping_add(imm.cast_unsigned());
-                self.fetch(size, pc, op, rd, address)
+                self.fetch(size, pc, op, rd, rs1, imm.cast_unsigned())
             }
             Instr::Store { op, rs1, rs2, imm } => {
-                let address = self.register(rs1).wrapping_add(imm.cast_unsigned());
-                self.keep(size, pc, op, self.register(rs2), address)
+                self.keep(size, pc, op, rs2, rs1, imm.cast_unsigned())
             }
             Instr::OpImm { op, rd, rs1, imm } => {
-                let value = alu::immediate(op, self.register(rs1), imm.cast_unsigned());
+                let value = self.immediate(op, rs1, imm.cast_unsigned());
                 self.give(size, pc, rd, value)
             }
             Instr::Op { op, rd, rs1, rs2 } => {
@@ -162,7 +233,7 @@ impl Engine {
 
     // Ends so many plain steps: the pc and the counters.
     fn catch_up(&mut self, pc: u32, count: u32)
-        requires { self.old.step + count ≤ 1000000000 }
+        requires { self.old.step + count ≤ MOST_STEPS }
         ensures { self.new ≡ caught_up count (from self.old pc) }
     {
         self.pc = pc;
@@ -173,7 +244,7 @@ impl Engine {
     /// Does the next steps with these interrupt lines as long as they are plain ones, but at most so many, and answers
     /// how many it did.
     pub fn run_plain(&mut self, lines: u8, at_most: u32) -> u32
-        requires { self.old.step + at_most ≤ 1000000000 }
+        requires { self.old.step + at_most ≤ MOST_STEPS }
         ensures few { result ≤ at_most }
         ensures plain { IsTrue (are_plain lines result self.old) }
         ensures state { plain_after lines result self.old ≡ self.new }

@@ -1,4 +1,5 @@
 //! The hart as its callers see it.
+ghost use Rattle.memory_map.specs.declared.TheConstants.{MOST_STEPS};
 ghost use Rattle.std.specs.Prelude.{◌≡◌, ◌+◌, ◌*◌, ◌%◌, ◌<◌, ◌≤◌, ℕ, false, None, Some, IsTrue, is_some, length, slice_index};
 ghost use Rattle.any_machine.specs.Machine.{is_load};
 ghost use Rattle.run_events.specs.Event.{Fits};
@@ -15,14 +16,14 @@ pub struct Cpu {
 }
 
 impl Model for Cpu {
-    ghost use Rattle.hart_model.specs.Aligned.{IsAligned};
     ghost use Rattle.hart_model.specs.State.{State};
+    ghost use Rattle.rv_cpu.specs.Sound.{IsSound};
 
     ghost Value = { State };
 
     ghost view = { λ c. c.engine };
 
-    ghost invariant = { λ c. IsAligned c.engine };
+    ghost invariant = { λ c. IsSound c.engine };
 }
 
 impl Cpu {
@@ -55,7 +56,7 @@ impl Cpu {
     /// Does the next step with these interrupt lines, and with what the device register that it loads gives, and answers
     /// what it shows. (Unprivileged manual, chapters 2, 3, 7, 8 and 9; Privileged manual, chapter 3.)
     pub fn step(&mut self, lines: u8, supplied: Option<Supplied>) -> Event
-        requires room { self.old.step < 1000000000 }
+        requires room { self.old.step < MOST_STEPS }
         requires given { is_load (needs self.old lines) ≡ is_some supplied }
         ensures step { cpu self.old lines supplied ≡ (result, self.new) }
         ensures size { length self.new.ram ≡ length self.old.ram }
@@ -68,7 +69,7 @@ impl Cpu {
     /// executes an instruction that is no fence, no atomic and none of the privileged manual, and that accesses no device.
     #[inline(always)]
     pub fn try_step(&mut self, lines: u8, event: &mut Event) -> bool
-        requires { self.old.step < 1000000000 }
+        requires { self.old.step < MOST_STEPS }
         ensures plain { result ≡ is_plain self.old lines }
         ensures step { IsTrue result → cpu self.old lines None ≡ (event.new, self.new) }
         ensures same { result ≡ false → self.new ≡ self.old }
@@ -82,7 +83,7 @@ impl Cpu {
     /// Does the next steps with these interrupt lines as long as they are plain ones, as `try_step` says, and at most so
     /// many. It answers how many it did. None of them needs or stores anything outside RAM.
     pub fn run_plain(&mut self, lines: u8, at_most: u32) -> u32
-        requires { self.old.step + at_most ≤ 1000000000 }
+        requires { self.old.step + at_most ≤ MOST_STEPS }
         ensures few { result ≤ at_most }
         ensures plain { IsTrue (are_plain lines result self.old) }
         ensures state { plain_after lines result self.old ≡ self.new }

@@ -12,6 +12,7 @@ mod execute;
 mod hart;
 mod moves;
 mod need;
+mod operands;
 mod plain;
 mod step;
 mod system;

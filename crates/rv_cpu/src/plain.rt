@@ -32,23 +32,17 @@ impl Engine {
                 self.jump_plainly(size, rd, sum - sum % 2)
             }
             Instr::Branch { op, rs1, rs2, imm } => {
-                let taken = alu::takes_branch(op, self.register(rs1), self.register(rs2));
+                let taken = self.takes_branch(op, rs1, rs2);
                 self.branch_plainly(size, taken, self.pc.wrapping_add(imm.cast_unsigned()))
             }
             Instr::Load { op, rd, rs1, imm } => {
-                let address = self.register(rs1).wrapping_add(imm.cast_unsigned());
-                self.load_plainly(size, op, rd, address)
+                self.load_plainly(size, op, rd, rs1, imm.cast_unsigned())
             }
             Instr::Store { op, rs1, rs2, imm } => {
-                let address = self.register(rs1).wrapping_add(imm.cast_unsigned());
-                self.store_plainly(size, op, self.register(rs2), address)
+                self.store_plainly(size, op, rs2, rs1, imm.cast_unsigned())
             }
             Instr::OpImm { op, rd, rs1, imm } => {
-                self.write(
-                    size,
-                    rd,
-                    alu::immediate(op, self.register(rs1), imm.cast_unsigned()),
-                )
+                self.write(size, rd, self.immediate(op, rs1, imm.cast_unsigned()))
             }
             Instr::Op { op, rd, rs1, rs2 } => {
                 self.write(

@@ -1,5 +1,7 @@
 //! One step.
+ghost use Rattle.memory_map.specs.declared.TheConstants.{MOST_STEPS};
 ghost use Rattle.std.specs.Prelude.{◌≡◌, ℕ, ◌+◌, ◌<◌, true, false, None, Some, IsTrue};
+ghost use Rattle.rv_csr.proofs.CounterLaws.{IsSettled};
 ghost use Rattle.rv_decode.specs.Valid.{IsValid};
 ghost use Rattle.hart_model.specs.Machine.{holds_word};
 ghost use Rattle.hart_model.specs.Step.{cpu, outcome, step_by, trapped, interrupted, touch};
@@ -19,7 +21,7 @@ impl Engine {
     // Ends a step whose instruction was executed: its event, the next pc, and the counters.
     #[inline(always)]
     fn end(&mut self, word: u32, told: Told, value: u32, next: u32, access: Access) -> Event
-        requires { self.old.step < 1000000000 }
+        requires { self.old.step < MOST_STEPS }
         ensures { ended told word (Goes value next access) self.old ≡ Some (result, self.new) }
     {
         let event = Event::Exec {
@@ -37,6 +39,29 @@ impl Engine {
         event
     }
 
+    // The same where no counter was written since the last step ended.
+    #[inline(always)]
+    fn end_plainly(&mut self, word: u32, told: Told, value: u32, next: u32, access: Access) -> Event
+        requires room { self.old.step < MOST_STEPS }
+        requires settled { IsSettled self.old.csrs }
+        ensures { ended told word (Goes value next access) self.old ≡ Some (result, self.new) }
+    {
+        let event = Event::Exec {
+            step: self.steps,
+            pc: self.pc,
+            word,
+            next,
+            result: value,
+            access,
+            told,
+        };
+        self.pc = next;
+        self.csrs.mcycle = self.csrs.mcycle.wrapping_add(1);
+        self.csrs.minstret = self.csrs.minstret.wrapping_add(1);
+        self.steps += 1;
+        event
+    }
+
     // Does the step of a plain instruction; of another one, nothing.
     #[inline(always)]
     fn run_plainly(
@@ -48,7 +73,8 @@ impl Engine {
         event: &mut Event,
     ) -> bool
         requires valid { IsValid instr }
-        requires room { self.old.step < 1000000000 }
+        requires room { self.old.step < MOST_STEPS }
+        requires settled { IsSettled self.old.csrs }
         ensures plain { result ≡ is_plain_decoded self.old lines word size (Some instr) }
         ensures step { IsTrue result →
             step_by self.old word (outcome self.old lines None word size instr)
@@ -58,12 +84,12 @@ impl Engine {
         let told = self.told();
         match self.execute_plainly(lines, word, size, instr) {
             Done::Quiet { result, next } => {
-                *event = self.end(word, told, result, next, Access::Quiet);
+                *event = self.end_plainly(word, told, result, next, Access::Quiet);
                 true
             }
             Done::Accessed { result, access } => {
                 let next = self.next(size);
-                *event = self.end(word, told, result, next, access);
+                *event = self.end_plainly(word, told, result, next, access);
                 true
             }
             _ => false,
@@ -74,7 +100,8 @@ impl Engine {
     #[tactic(auto, unfolding(hart_model::specs::Step::cpu, crate::specs::Plain::is_plain))]
     #[inline(always)]
     pub fn try_step(&mut self, lines: u8, event: &mut Event) -> bool
-        requires { self.old.step < 1000000000 }
+        requires room { self.old.step < MOST_STEPS }
+        requires settled { IsSettled self.old.csrs }
         ensures plain { result ≡ is_plain self.old lines }
         ensures step { IsTrue result → cpu self.old lines None ≡ (event.new, self.new) }
         ensures same { result ≡ false → self.new ≡ self.old }
@@ -91,7 +118,7 @@ impl Engine {
 
     // Takes an exception at the instruction of this word. (Privileged manual, 3.1.7.)
     fn trap(&mut self, word: u32, cause: u32, value: u32) -> Event
-        requires { self.old.step < 1000000000 }
+        requires { self.old.step < MOST_STEPS }
         ensures { trapped self.old word cause value ≡ (result, self.new) }
     {
         let (step, pc) = (self.steps, self.pc);
@@ -111,7 +138,7 @@ impl Engine {
 
     // Takes an interrupt in place of the next instruction. (Privileged manual, 3.1.9.)
     fn interrupt(&mut self, cause: u32) -> Event
-        requires { self.old.step < 1000000000 }
+        requires { self.old.step < MOST_STEPS }
         ensures { interrupted self.old cause ≡ (result, self.new) }
     {
         let (step, pc) = (self.steps, self.pc);
@@ -137,7 +164,7 @@ impl Engine {
         instr: Instr,
     ) -> Event
         requires valid { IsValid instr }
-        requires room { self.old.step < 1000000000 }
+        requires room { self.old.step < MOST_STEPS }
         ensures { step_by self.old word (outcome self.old lines supplied word size instr)
             ≡ (result, self.new) }
     {
@@ -156,7 +183,7 @@ impl Engine {
     /// Does the next step, with these interrupt lines and what a device register supplied, and answers what it shows.
     #[tactic(auto, unfolding(hart_model::specs::Step::cpu, hart_model::specs::Step::step_by))]
     pub fn step(&mut self, lines: u8, supplied: Option<Supplied>) -> Event
-        requires { self.old.step < 1000000000 }
+        requires { self.old.step < MOST_STEPS }
         ensures { cpu self.old lines supplied ≡ (result, self.new) }
     {
         if let Some(cause) = self.csrs.pending(lines) {

@@ -53,7 +53,8 @@ pub fn imm_s(word: u32) -> i32
 // all of a branch's immediate but its sign
 #[inline(always)]
 fn low_b(word: u32) -> u32
-    ensures value { result ≡ word / 2 ^ 7 % 2 * 2 ^ 11 + word / 2 ^ 25 % 2 ^ 6 * 2 ^ 5 + word / 2 ^ 8 % 2 ^ 4 * 2 }
+    ensures value { result
+        ≡ word / 2 ^ 7 % 2 * 2 ^ 11 + word / 2 ^ 25 % 2 ^ 6 * 2 ^ 5 + word / 2 ^ 8 % 2 ^ 4 * 2 }
     ensures below { result < 2 ^ 12 }
 {
     (word >> 7 & 1) * 2048 + (word >> 25 & 63) * 32 + (word >> 8 & 15) * 2
@@ -78,7 +79,8 @@ pub fn imm_u(word: u32) -> i32
 // all of a jump's immediate but its sign
 #[inline(always)]
 fn low_j(word: u32) -> u32
-    ensures value { result ≡ word / 2 ^ 12 % 2 ^ 8 * 2 ^ 12 + word / 2 ^ 20 % 2 * 2 ^ 11 + word / 2 ^ 21 % 2 ^ 10 * 2 }
+    ensures value { result
+        ≡ word / 2 ^ 12 % 2 ^ 8 * 2 ^ 12 + word / 2 ^ 20 % 2 * 2 ^ 11 + word / 2 ^ 21 % 2 ^ 10 * 2 }
     ensures below { result < 2 ^ 20 }
 {
     (word >> 12 & 255) * 4096 + (word >> 20 & 1) * 2048 + (word >> 21 & 1023) * 2

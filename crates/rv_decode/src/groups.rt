@@ -24,24 +24,13 @@ pub fn jalr(word: u32) -> Option<Instr>
     }
 }
 
-#[inline(always)]
-fn branch_of(op: BranchOp, word: u32) -> Instr
-    ensures { result ≡ branch_row op word }
-{
-    Instr::Branch {
-        op,
-        rs1: rs1(word),
-        rs2: rs2(word),
-        imm: imm_b(word),
-    }
-}
-
 /// What a word of the opcode 63 reads: the branches.
 #[inline(always)]
 pub fn branch(word: u32) -> Option<Instr>
     requires { opcode_of word ≡ 0x63 }
     ensures { result ≡ read_by branches word }
 {
+    let (rs1, rs2, imm) = (rs1(word), rs2(word), imm_b(word));
     let op = match funct3(word) {
         0 => BranchOp::Beq,
         1 => BranchOp::Bne,
@@ -51,7 +40,7 @@ pub fn branch(word: u32) -> Option<Instr>
         7 => BranchOp::Bgeu,
         _ => return None,
     };
-    Some(branch_of(op, word))
+    Some(Instr::Branch { op, rs1, rs2, imm })
 }
 
 #[inline(always)]
@@ -110,30 +99,6 @@ pub fn store(word: u32) -> Option<Instr>
     Some(store_of(op, word))
 }
 
-#[inline(always)]
-fn immediate_of(op: ImmOp, word: u32) -> Instr
-    ensures { result ≡ immediate_row op word }
-{
-    Instr::OpImm {
-        op,
-        rd: rd(word),
-        rs1: rs1(word),
-        imm: imm_i(word),
-    }
-}
-
-#[inline(always)]
-fn shift_of(op: ImmOp, word: u32) -> Instr
-    ensures { result ≡ shift_row op word }
-{
-    Instr::OpImm {
-        op,
-        rd: rd(word),
-        rs1: rs1(word),
-        imm: rs2(word).cast_signed(),
-    }
-}
-
 // What a shift by an immediate reads.
 #[inline(always)]
 fn shift(word: u32) -> Option<Instr>
@@ -141,13 +106,14 @@ fn shift(word: u32) -> Option<Instr>
     requires shifts { (funct3_of word ≡ 1) ⊎ (funct3_of word ≡ 5) }
     ensures { result ≡ read_by immediates word }
 {
+    let (rd, rs1, imm) = (rd(word), rs1(word), rs2(word).cast_signed());
     let op = match (funct3(word), word >> 25) {
         (1, 0x00) => ImmOp::Slli,
         (5, 0x00) => ImmOp::Srli,
         (5, 0x20) => ImmOp::Srai,
         _ => return None,
     };
-    Some(shift_of(op, word))
+    Some(Instr::OpImm { op, rd, rs1, imm })
 }
 
 /// What a word of the opcode 13 reads: the operations on an immediate.
@@ -156,6 +122,7 @@ pub fn immediate(word: u32) -> Option<Instr>
     requires { opcode_of word ≡ 0x13 }
     ensures { result ≡ read_by immediates word }
 {
+    let (rd, rs1, imm) = (rd(word), rs1(word), imm_i(word));
     let op = match funct3(word) {
         0 => ImmOp::Addi,
         2 => ImmOp::Slti,
@@ -165,7 +132,7 @@ pub fn immediate(word: u32) -> Option<Instr>
         7 => ImmOp::Andi,
         _ => return shift(word),
     };
-    Some(immediate_of(op, word))
+    Some(Instr::OpImm { op, rd, rs1, imm })
 }
 
 #[inline(always)]

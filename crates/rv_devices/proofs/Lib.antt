@@ -4,3 +4,4 @@ pub mod EntryLaws
 pub mod FollowLaws
 pub mod SendLaws
 pub mod StandLaws
+pub mod TimeLaws

@@ -1,6 +1,6 @@
 -- What a board shows at a step, and what it keeps.
 use Rattle.std.proofs.Common.{◌≡◌, ℕ, zero, suc, ◌+◌, ◌-◌, ◌*◌, ◌/◌, ◌%◌, ◌^◌, ◌<◌, ◌≤◌, Bool, true, false, List, [], Some, drop, refl, sym, ◌∙◌, ap, subst, arith}
-use Rattle.std.specs.Prelude.{◌&&◌, ◌||◌, ◌==◌, nat_le, nat_lt, if◌then◌else◌}
+use Rattle.std.specs.Prelude.{min, ◌&&◌, ◌||◌, ◌==◌, nat_le, nat_lt, if◌then◌else◌}
 use Rattle.std.proofs.lemmas.Nat.{div-mul-add}
 use Rattle.memory_map.specs.declared.TheConstants.{SERIAL_DATA}
 use Rattle.run_events.specs.declared.supply.DmaWord.{DmaWord}
@@ -19,9 +19,10 @@ use Rattle.rv_devices.specs.Follows.{Follows}
 use Rattle.rv_devices.specs.Serves.{Serves, NotBefore, activity_of}
 use Rattle.rv_devices.specs.Stands.{Stands, quiet_ahead}
 use Rattle.rv_devices.specs.Still.{IsStill}
-use Rattle.rv_devices.specs.Times.{Times}
+use Rattle.rv_devices.specs.Times.{Times, passed, steady_until}
 use Rattle.rv_devices.proofs.DueLaws.{due_ticks, waits_is}
 use Rattle.rv_devices.proofs.EntryLaws.{AreDue-more, AreLater-less}
+use Rattle.rv_devices.proofs.TimeLaws.{steady_line, times_passed}
 
 -- a timer has risen by its clock as often as the steps hold its clock
 risen : (clock step ticks offset : ℕ) (t : Timer) (times : Times clock (step + 1) ticks offset t) → step / clock ≡ times.rises
@@ -61,55 +62,71 @@ no_words_before script step begun words state board s below = ap (λ p. p.0) (st
 pub same_state : (script : Script) (step begun : ℕ) (words : List DmaWord) (state : BoardState) (board : Board) → Stands script begun words state board → step < board.quiet → at_step step state ≡ state
 same_state script step begun words state board s below = ap (λ p. record state { activity = p.1 }) (still script step begun words state board s below)
 
--- steps before which nothing falls due
-pub quiet_to : (script : Script) (begun to : ℕ) (words : List DmaWord) (state : BoardState) (board : Board) → Stands script begun words state board → begun ≤ to → to ≤ board.quiet → to ≤ 2 ^ 32 → Stands script to words state (record board { begun = to })
-quiet_to script begun to words state board s more below numbered = record {
+-- steps before which neither the script nor the disk brings anything
+pub quiet_to : (script : Script) (begun to : ℕ) (words : List DmaWord) (state : BoardState) (board : Board) (timer : Timer) → Stands script begun words state board → begun ≤ to → to ≤ 2 ^ 32 → AreLater to (drop board.schedule.place script.entries)
+    → Times script.clock to (ticks_before board.schedule.place script.entries) state.offset timer → timer.compare ≡ board.timer.compare → Stands script to words state (record board { begun = to; timer = timer })
+quiet_to script begun to words state board timer s more numbered later times compare = record {
   playable = s.playable;
   begun_is = refl;
   numbered = numbered;
   follows = record {
     entries_are = s.follows.entries_are;
     due = AreDue-more begun to board.schedule.place script.entries more s.follows.due;
-    later = AreLater-less to board.quiet (drop board.schedule.place script.entries) below s.is_quiet.entries_later;
+    later = later;
     latency_is = s.follows.latency_is;
     within = s.follows.within;
     left = s.follows.left;
     clear = s.follows.clear;
     fresh = s.follows.fresh;
   };
-  times = record {
-    rises = s.times.rises;
-    clock_is = s.times.clock_is;
-    rise_is = s.times.rise_is;
-    since = omega (arith, s.times.since, more);
-    until = omega (arith, below, s.is_quiet.timer);
-    count_is = s.times.count_is;
-  };
-  compare_is = s.compare_is;
+  times = times;
+  compare_is = compare ∙ s.compare_is;
   serial_is = s.serial_is;
   serves = s.serves;
-  is_quiet = record { timer = s.is_quiet.timer; entries_later = s.is_quiet.entries_later; disk = s.is_quiet.disk };
+  is_quiet = record { entries_later = s.is_quiet.entries_later; disk = s.is_quiet.disk };
 }
 
-pub passed : (script : Script) (begun count : ℕ) (words : List DmaWord) (state : BoardState) (board : Board) → Stands script begun words state board → count ≤ quiet_ahead board → Stands script (begun + count) words state (record board { begun = board.begun + count })
-passed script begun zero words state board s within =
-    let none : begun ≡ begun + 0 = omega arith in
-    let same : board.begun ≡ board.begun + 0 = omega arith in
-    subst (λ n. Stands script n words state (record board { begun = board.begun + 0 })) none (subst (λ n. Stands script begun words state (record board { begun = n })) same s)
-passed script begun (suc count) words state board s within =
-    subst (λ n. Stands script (begun + suc count) words state (record board { begun = n + suc count })) (sym s.begun_is)
-    (quiet_to script begun (begun + suc count) words state board s (omega arith) (omega (arith, within, s.begun_is)) (omega (arith, within, s.begun_is)))
+-- one step, before which the timer does not rise
+pub quiet_step : (script : Script) (step : ℕ) (state : BoardState) (board : Board) → Stands script step [] state board → step < min board.quiet board.timer.rise → step + 1 ≤ 2 ^ 32 → Stands script (step + 1) [] state (record board { begun = step + 1 })
+quiet_step script step state board s below numbered =
+    quiet_to script step (step + 1) [] state board board.timer s (omega arith) numbered
+    (AreLater-less (step + 1) board.quiet (drop board.schedule.place script.entries) (omega (arith, below)) s.is_quiet.entries_later)
+    (record { rises = s.times.rises; clock_is = s.times.clock_is; rise_is = s.times.rise_is; since = omega (arith, s.times.since); until = omega (arith, below); count_is = s.times.count_is }) refl
+
+-- several steps, in which it does
+timer_to : (script : Script) (begun to : ℕ) (words : List DmaWord) (state : BoardState) (board : Board) → Stands script begun words state board → begun ≤ to → Times script.clock to (ticks_before board.schedule.place script.entries) state.offset (passed board.timer to)
+timer_to script begun to words state board s more = times_passed script.clock begun to (ticks_before board.schedule.place script.entries) state.offset board.timer s.playable.clock more s.times
+
+pub stands_passed : (script : Script) (begun count : ℕ) (words : List DmaWord) (state : BoardState) (board : Board) → Stands script begun words state board → count ≤ quiet_ahead board
+    → Stands script (begun + count) words state (record board { begun = begun + count; timer = passed board.timer (begun + count) })
+stands_passed script begun zero words state board s within =
+    quiet_to script begun (begun + 0) words state board (passed board.timer (begun + 0)) s (omega arith) (omega (arith, s.numbered)) (AreLater-less (begun + 0) begun (drop board.schedule.place script.entries) (omega arith) s.follows.later) (timer_to script begun (begun + 0) words state board s (omega arith)) refl
+stands_passed script begun (suc count) words state board s within =
+    quiet_to script begun (begun + suc count) words state board (passed board.timer (begun + suc count)) s (omega arith) (omega (arith, within, s.begun_is))
+    (AreLater-less (begun + suc count) board.quiet (drop board.schedule.place script.entries) (omega (arith, within, s.begun_is)) s.is_quiet.entries_later) (timer_to script begun (begun + suc count) words state board s (omega arith)) refl
 
 -- they bring nothing, and keep the lines
 pub is_still : (script : Script) (step k : ℕ) (words : List DmaWord) (state : BoardState) (board : Board) → Stands script (step + 1) words state board → k < quiet_ahead board → IsStill script (board_lines script step state) (step + 1 + k) state
 is_still script step k words state board s below =
     let at = step + 1 + k in
     let quiet : at < board.quiet = omega (arith, below, s.begun_is) in
-    let later = quiet_to script (step + 1) (at + 1) words state board s (omega arith) (omega (arith, quiet)) (omega (arith, below, s.begun_is)) in
+    let steady : at < steady_until board.timer = omega (arith, below, s.begun_is) in
+    let later =
+    quiet_to script (step + 1) (at + 1) words state board (passed board.timer (at + 1)) s (omega arith) (omega (arith, below, s.begun_is))
+    (AreLater-less (at + 1) board.quiet (drop board.schedule.place script.entries) (omega (arith, quiet)) s.is_quiet.entries_later) (timer_to script (step + 1) (at + 1) words state board s (omega arith)) refl in
+    let line : nat_le board.timer.compare (passed board.timer (at + 1)).count ≡ nat_le board.timer.compare board.timer.count =
+    steady_line script.clock (step + 1) (ticks_before board.schedule.place script.entries) state.offset at board.timer s.playable.clock s.times steady in
     record {
       none = no_words_before script at (step + 1) words state board s quiet;
       same = same_state script at (step + 1) words state board s quiet;
-      lines_stay = lines_are script at words state (record board { begun = at + 1 }) later ∙ sym (lines_are script step words state board s);
+      lines_stay =
+          lines_are script at words state (record board { begun = at + 1; timer = passed board.timer (at + 1) }) later
+          ∙ ap
+          (λ b.
+          (if b then 1 else 0)
+          + (if (nat_lt board.schedule.source board.schedule.place && board.serial_control == 1) || (nat_le 2 (model.status_of (activity_of board.disk.activity board.disk.pending)) && board.disk.control == 1) then 2 else 0))
+          line
+          ∙ sym (lines_are script step words state board s);
     }
 
 -- an earlier step
@@ -162,7 +179,7 @@ time_set script step words state board value s below = record {
   compare_is = s.compare_is;
   serial_is = s.serial_is;
   serves = served script words state board.disk state.taken (model.offset_for script step value) s.serves;
-  is_quiet = record { timer = s.is_quiet.timer; entries_later = s.is_quiet.entries_later; disk = s.is_quiet.disk };
+  is_quiet = record { entries_later = s.is_quiet.entries_later; disk = s.is_quiet.disk };
 }
 
 -- a load of the serial data
@@ -185,7 +202,6 @@ loaded script step words state board schedule s follows place =
       serial_is = s.serial_is;
       serves = served script words state board.disk (if nat_lt board.schedule.source board.schedule.place then state.taken + 1 else state.taken) state.offset s.serves;
       is_quiet = record {
-        timer = s.is_quiet.timer;
         entries_later = subst (λ n. AreLater board.quiet (drop n script.entries)) (sym place) s.is_quiet.entries_later;
         disk = s.is_quiet.disk;
       };
@@ -216,7 +232,6 @@ commanded_stands script step words state board ram command quiet disk s serves l
   serial_is = s.serial_is ∙ sym (commanded_keeps (λ (b : BoardState). b.serial_control) script step ram command state (λ _ _. refl));
   serves = serves;
   is_quiet = record {
-    timer = omega (arith, s.is_quiet.timer, less);
     entries_later = AreLater-less quiet board.quiet (drop board.schedule.place script.entries) less s.is_quiet.entries_later;
     disk = far;
   };

@@ -8,7 +8,7 @@ use Rattle.rv_devices.specs.Entries.{AreLater, ticks_before}
 use Rattle.rv_devices.specs.Follows.{Follows}
 use Rattle.rv_devices.specs.Sends.{unsent}
 use Rattle.rv_devices.specs.Serves.{Serves, NotBefore}
-use Rattle.rv_devices.specs.Times.{Times}
+use Rattle.rv_devices.specs.Times.{Times, steady_until}
 
 -- how many steps have begun, and how many words `due` has still to hand out
 abbrev pub steps_begun : Board → ℕ
@@ -17,13 +17,12 @@ steps_begun board = board.begun
 abbrev pub words_due : Board → ℕ
 words_due board = unsent board.disk.sending
 
--- before so many of the steps to come nothing falls due
+-- before so many of the steps to come nothing falls due, and the timer's line stays
 abbrev pub quiet_ahead : Board → ℕ
-quiet_ahead board = min board.quiet (2 ^ 32) - board.begun
+quiet_ahead board = min (min board.quiet (steady_until board.timer)) (2 ^ 32) - board.begun
 
--- nothing falls due by itself before the step that it keeps
+-- neither the script nor the disk brings anything before the step that it keeps
 pub record IsQuiet (entries : List Entry) (board : Board) : Type 0 where
-  pub timer : board.quiet ≤ board.timer.rise
   pub entries_later : AreLater board.quiet (drop board.schedule.place entries)
   pub disk : NotBefore board.quiet board.disk.activity
 

@@ -21,7 +21,7 @@ use std::alloc::Global;
 pub struct Board {
     // how many steps have begun
     begun: u64,
-    // nothing falls due by itself before this step
+    // neither the script nor the disk brings anything before this step
     quiet: u64,
     schedule: Schedule,
     timer: Timer,
@@ -129,18 +129,16 @@ impl Board {
     // Goes on to a step before which something falls due.
     fn advance(&mut self, step: u32)
         ensures begun { self.new.begun ≡ step + 1 }
-        ensures stands { (script : Outside) (state : BoardState) → Stands script step [] state self.old → Stands script (step + 1) (model.words_before step state) (model.at_step step state) self.new }
+        ensures stands { (script : Outside) (state : BoardState)
+            → Stands script step [] state self.old
+            → Stands script (step + 1) (model.words_before step state) (model.at_step step state) self.new }
     {
         self.begun = u64::from(step) + 1;
         self.timer.advance(step);
         let ticks = self.schedule.advance(step);
         self.timer.pulse(ticks);
         self.disk.advance(step);
-        self.quiet = self
-            .timer
-            .rise
-            .min(self.schedule.due())
-            .min(self.disk.due());
+        self.quiet = self.schedule.due().min(self.disk.due());
     }
 
     /// Begins a step: what falls due with it is there. Steps begin in order from 0, and `due` has no word left of the
@@ -149,9 +147,11 @@ impl Board {
         requires order { step ≡ steps_begun self.old }
         requires drained { words_due self.old ≡ 0 }
         ensures begun { steps_begun self.new ≡ step + 1 }
-        ensures stands { (script : Outside) (state : BoardState) → Stands script step [] state self.old → Stands script (step + 1) (model.words_before step state) (model.at_step step state) self.new }
+        ensures stands { (script : Outside) (state : BoardState)
+            → Stands script step [] state self.old
+            → Stands script (step + 1) (model.words_before step state) (model.at_step step state) self.new }
     {
-        if u64::from(step) < self.quiet {
+        if u64::from(step) < self.quiet.min(self.timer.rise) {
             self.begun = u64::from(step) + 1;
         } else {
             self.advance(step);
@@ -163,10 +163,12 @@ impl Board {
     #[inline]
     pub fn quiet_for(&self) -> u32
         requires { 1 ≤ steps_begun self.now }
-        ensures still { (script : Outside) (step : ℕ) (words : List DmaWord) (state : BoardState) → Stands script (step + 1) words state self.now → AreStill script (model.board_lines script step state) (step + 1) result state }
+        ensures still { (script : Outside) (step : ℕ) (words : List DmaWord) (state : BoardState)
+            → Stands script (step + 1) words state self.now
+            → AreStill script (model.board_lines script step state) (step + 1) result state }
         ensures ahead { result ≤ quiet_ahead self.now }
     {
-        let until = self.quiet.min(0x1_0000_0000);
+        let until = self.quiet.min(self.timer.steady()).min(0x1_0000_0000);
         if until <= self.begun {
             return 0;
         }
@@ -179,15 +181,22 @@ impl Board {
         requires { count ≤ quiet_ahead self.old }
         ensures begun { steps_begun self.new ≡ steps_begun self.old + count }
         ensures left { words_due self.new ≡ words_due self.old }
-        ensures stands { (script : Outside) (begun : ℕ) (words : List DmaWord) (state : BoardState) → Stands script begun words state self.old → Stands script (begun + count) words state self.new }
+        ensures stands { (script : Outside) (begun : ℕ) (words : List DmaWord) (state : BoardState)
+            → Stands script begun words state self.old
+            → Stands script (begun + count) words state self.new }
     {
         self.begun += u64::from(count);
+        self.timer.pass(self.begun);
     }
 
     /// Hands out the next word that the disk writes before this step. None is left where it answers None.
     pub fn due(&mut self) -> Option<DmaWord>
-        ensures next { (script : Outside) (begun : ℕ) (words : List DmaWord) (state : BoardState) → Stands script begun words state self.old → result ≡ slice_get words 0 }
-        ensures stands { (script : Outside) (begun : ℕ) (words : List DmaWord) (state : BoardState) → Stands script begun words state self.old → Stands script begun (drop 1 words) state self.new }
+        ensures next { (script : Outside) (begun : ℕ) (words : List DmaWord) (state : BoardState)
+            → Stands script begun words state self.old
+            → result ≡ slice_get words 0 }
+        ensures stands { (script : Outside) (begun : ℕ) (words : List DmaWord) (state : BoardState)
+            → Stands script begun words state self.old
+            → Stands script begun (drop 1 words) state self.new }
         ensures left { words_due self.new ≡ words_due self.old - 1 }
         ensures some { IsSome result ↔ (1 ≤ words_due self.old) }
         ensures begun { steps_begun self.new ≡ steps_begun self.old }
@@ -198,14 +207,19 @@ impl Board {
     /// The interrupt lines of the step: bit 0 of the timer, bit 1 of the serial line and the disk.
     pub fn lines(&self) -> u8
         requires { 1 ≤ steps_begun self.now }
-        ensures { (script : Outside) (step : ℕ) (words : List DmaWord) (state : BoardState) → Stands script (step + 1) words state self.now → result ≡ model.board_lines script step state }
+        ensures { (script : Outside) (step : ℕ) (words : List DmaWord) (state : BoardState)
+            → Stands script (step + 1) words state self.now
+            → result ≡ model.board_lines script step state }
     {
         let serial = raises(self.schedule.waits(), self.serial_control);
         bit(self.timer.line(), 1) + bit(either(serial, self.disk.line()), 2)
     }
     // What a load gives of a register other than the serial data.
     fn value_of(&self, register: Register) -> u32
-        ensures { (script : Outside) (step : ℕ) (words : List DmaWord) (state : BoardState) → Stands script (step + 1) words state self.now → named register ≢ model.SerialData → model.unmarked result ≡ model.given_by script step state (named register) }
+        ensures { (script : Outside) (step : ℕ) (words : List DmaWord) (state : BoardState)
+            → Stands script (step + 1) words state self.now
+            → named register ≢ model.SerialData
+            → model.unmarked result ≡ model.given_by script step state (named register) }
     {
         match register {
             Register::CompareLow => low_half(self.timer.compare),
@@ -228,8 +242,12 @@ impl Board {
     pub fn load(&mut self, address: u32) -> Supplied
         requires begun { 1 ≤ steps_begun self.old }
         requires register { IsSome (model.register_at address) }
-        ensures value { (script : Outside) (step : ℕ) (words : List DmaWord) (state : BoardState) → Stands script (step + 1) words state self.old → result ≡ model.given_at script step state address }
-        ensures stands { (script : Outside) (step : ℕ) (words : List DmaWord) (state : BoardState) → Stands script (step + 1) words state self.old → Stands script (step + 1) words (model.after_load script step state address) self.new }
+        ensures value { (script : Outside) (step : ℕ) (words : List DmaWord) (state : BoardState)
+            → Stands script (step + 1) words state self.old
+            → result ≡ model.given_at script step state address }
+        ensures stands { (script : Outside) (step : ℕ) (words : List DmaWord) (state : BoardState)
+            → Stands script (step + 1) words state self.old
+            → Stands script (step + 1) words (model.after_load script step state address) self.new }
         ensures begun { steps_begun self.new ≡ steps_begun self.old }
         ensures left { words_due self.new ≡ words_due self.old }
     {
@@ -248,7 +266,9 @@ impl Board {
         requires ram { length ram.now ≤ 2 ^ 24 }
         ensures begun { self.new.begun ≡ self.old.begun }
         ensures left { self.new.disk.sending ≡ self.old.disk.sending }
-        ensures stands { (script : Outside) (step : ℕ) (words : List DmaWord) (state : BoardState) → Stands script (step + 1) words state self.old → Stands script (step + 1) words (model.commanded script step ram.now command state) self.new }
+        ensures stands { (script : Outside) (step : ℕ) (words : List DmaWord) (state : BoardState)
+            → Stands script (step + 1) words state self.old
+            → Stands script (step + 1) words (model.commanded script step ram.now command state) self.new }
     {
         let before = (self.begun - 1).wrapping_add(u64::from(self.schedule.latency()));
         self.disk.command(command, before, ram);
@@ -261,7 +281,9 @@ impl Board {
         requires ram { length ram.now ≤ 2 ^ 24 }
         ensures begun { self.new.begun ≡ self.old.begun }
         ensures left { self.new.disk.sending ≡ self.old.disk.sending }
-        ensures stands { (script : Outside) (step : ℕ) (words : List DmaWord) (state : BoardState) → Stands script (step + 1) words state self.old → Stands script (step + 1) words (model.stored_by script step ram.now value state (named register)) self.new }
+        ensures stands { (script : Outside) (step : ℕ) (words : List DmaWord) (state : BoardState)
+            → Stands script (step + 1) words state self.old
+            → Stands script (step + 1) words (model.stored_by script step ram.now value state (named register)) self.new }
     {
         match register {
             Register::CompareLow => self.timer.compare = with_low(self.timer.compare, value),
@@ -286,7 +308,9 @@ impl Board {
         requires register { IsSome (model.register_at address) }
         requires ram { length ram.now ≤ 2 ^ 24 }
         ensures effect { result ≡ effect_of address value }
-        ensures stands { (script : Outside) (step : ℕ) (words : List DmaWord) (state : BoardState) → Stands script (step + 1) words state self.old → Stands script (step + 1) words (model.after_store script step ram.now state address value) self.new }
+        ensures stands { (script : Outside) (step : ℕ) (words : List DmaWord) (state : BoardState)
+            → Stands script (step + 1) words state self.old
+            → Stands script (step + 1) words (model.after_store script step ram.now state address value) self.new }
         ensures begun { steps_begun self.new ≡ steps_begun self.old }
         ensures left { words_due self.new ≡ words_due self.old }
     {

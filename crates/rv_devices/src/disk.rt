@@ -61,7 +61,9 @@ impl Disk {
     /// The disk of these bytes at reset.
     pub fn new(bytes: Vec<u8>, sectors: Vec<Span>) -> Disk
         requires { length bytes.items < 2 ^ 32 }
-        ensures serves { (script : Script) → sectors.items ≡ script.sectors → Serves script [] (model.reset_board bytes.items) result }
+        ensures serves { (script : Script)
+            → sectors.items ≡ script.sectors
+            → Serves script [] (model.reset_board bytes.items) result }
         ensures left { unsent result.sending ≡ 0 }
     {
         Disk {
@@ -85,7 +87,8 @@ impl Disk {
 
     /// The number of sectors, as the register has it.
     pub fn count_register(&self) -> u32
-        ensures { model.sector_count self.now.bytes.items < 2 ^ 32 → result ≡ model.sector_count self.now.bytes.items }
+        ensures { model.sector_count self.now.bytes.items < 2 ^ 32
+            → result ≡ model.sector_count self.now.bytes.items }
     {
         (self.count() % 0x1_0000_0000) as u32
     }
@@ -104,7 +107,8 @@ impl Disk {
 
     /// Whether it raises the external line.
     pub fn line(&self) -> bool
-        ensures { result ≡ (nat_le 2 (model.status_of (activity_of self.now.activity self.now.pending)) && self.now.control == 1) }
+        ensures { result
+            ≡ (nat_le 2 (model.status_of (activity_of self.now.activity self.now.pending)) && self.now.control == 1) }
     {
         self.status() >= 2 && self.control == 1
     }
@@ -121,7 +125,9 @@ impl Disk {
 
     /// Goes on to this step: a command may complete.
     pub fn advance(&mut self, step: u32)
-        ensures { (script : Script) (state : BoardState) → Serves script [] state self.old → Serves script (model.words_before step state) (model.at_step step state) self.new }
+        ensures { (script : Script) (state : BoardState)
+            → Serves script [] state self.old
+            → Serves script (model.words_before step state) (model.at_step step state) self.new }
     {
         match self.activity {
             Activity::Busy { before } => {
@@ -138,7 +144,9 @@ impl Disk {
     pub fn acknowledge(&mut self)
         ensures sending { self.new.sending ≡ self.old.sending }
         ensures quiet { (step : ℕ) → NotBefore step self.old.activity → NotBefore step self.new.activity }
-        ensures serves { (script : Script) (words : List DmaWord) (state : BoardState) → Serves script words state self.old → Serves script words (record state { activity = model.acknowledged state.activity }) self.new }
+        ensures serves { (script : Script) (words : List DmaWord) (state : BoardState)
+            → Serves script words state self.old
+            → Serves script words (record state { activity = model.acknowledged state.activity }) self.new }
     {
         match self.activity {
             Activity::Busy { .. } => {}
@@ -148,7 +156,8 @@ impl Disk {
 
     // Whether a disk that is not busy accepts a command.
     fn accepts(&self, command: u32, ram: &Ram) -> bool
-        ensures { result ≡ model.is_accepted (length ram.now) (model.sector_count self.now.bytes.items) command self.now.sector self.now.address }
+        ensures { result
+            ≡ model.is_accepted (length ram.now) (model.sector_count self.now.bytes.items) command self.now.sector self.now.address }
     {
         (command == 1 || command == 2)
             && ((self.sector as usize) < self.count()
@@ -168,7 +177,8 @@ impl Disk {
         ensures sent { self.new.pending.sent ≡ 0 }
         ensures to { self.new.pending.address ≡ self.old.address }
         ensures busy { self.new.activity ≡ Activity.Busy before }
-        ensures mark { self.new.pending.mark ≡ (if list_any (model.names self.old.sector) self.old.sectors.items then 1 else 0) }
+        ensures mark { self.new.pending.mark
+            ≡ (if list_any (model.names self.old.sector) self.old.sectors.items then 1 else 0) }
     {
         let at = SECTOR_BYTES * self.sector as usize;
         let sector = &self.bytes[at..at + SECTOR_BYTES];
@@ -187,7 +197,8 @@ impl Disk {
     fn write(&mut self, before: u64, ram: &Ram)
         requires sector { self.old.sector < model.sector_count self.old.bytes.items }
         requires held { InRam (length ram.now) self.old.address 512 }
-        ensures bytes { self.new.bytes.items ≡ placed self.old.bytes.items (512 * self.old.sector) (take 512 (drop (self.old.address - RAM_START) ram.now)) }
+        ensures bytes { self.new.bytes.items
+            ≡ placed self.old.bytes.items (512 * self.old.sector) (take 512 (drop (self.old.address - RAM_START) ram.now)) }
         ensures sectors { self.new.sectors.items ≡ self.old.sectors.items }
         ensures sector { self.new.sector ≡ self.old.sector }
         ensures address { self.new.address ≡ self.old.address }
@@ -208,7 +219,10 @@ impl Disk {
     pub fn command(&mut self, command: u32, before: u64, ram: &Ram)
         requires { length ram.now ≤ 2 ^ 24 }
         ensures sending { self.new.sending ≡ self.old.sending }
-        ensures serves { (script : Script) (step : ℕ) (words : List DmaWord) (state : BoardState) → before ≡ step + model.latency script step → Serves script words state self.old → Serves script words (model.commanded script step ram.now command state) self.new }
+        ensures serves { (script : Script) (step : ℕ) (words : List DmaWord) (state : BoardState)
+            → before ≡ step + model.latency script step
+            → Serves script words state self.old
+            → Serves script words (model.commanded script step ram.now command state) self.new }
     {
         if self.status() == 1 {
             return;

@@ -100,10 +100,13 @@ impl Schedule {
         ensures source { self.new.source ≡ self.old.source }
         ensures taken { self.new.taken ≡ self.old.taken }
         ensures forward { self.old.place ≤ self.new.place }
-        ensures due { AreDue (step + 1) self.old.place self.old.entries.items → AreDue (step + 1) self.new.place self.old.entries.items }
+        ensures due { AreDue (step + 1) self.old.place self.old.entries.items
+            → AreDue (step + 1) self.new.place self.old.entries.items }
         ensures stops { IfSome (slice_get self.old.entries.items self.new.place) (λ entry. step + 1 ≤ entry.at) }
-        ensures ticks { (result + ticks_before self.old.place self.old.entries.items) % 2 ^ 64 ≡ ticks_before self.new.place self.old.entries.items % 2 ^ 64 }
-        ensures latency { self.old.latency ≡ latency_before self.old.place self.old.entries.items → self.new.latency ≡ latency_before self.new.place self.old.entries.items }
+        ensures ticks { (result + ticks_before self.old.place self.old.entries.items) % 2 ^ 64
+            ≡ ticks_before self.new.place self.old.entries.items % 2 ^ 64 }
+        ensures latency { self.old.latency ≡ latency_before self.old.place self.old.entries.items
+            → self.new.latency ≡ latency_before self.new.place self.old.entries.items }
     {
         let mut passed = 0u64;
         'entries: while self.place < self.entries.len() {
@@ -120,7 +123,8 @@ impl Schedule {
 
     // Whether no byte is left of the entry that had the last one.
     fn is_spent(&self) -> bool
-        ensures { result ≡ nat_le (length (arrivals_at self.now.source self.now.entries.items)) self.now.taken }
+        ensures { result
+            ≡ nat_le (length (arrivals_at self.now.source self.now.entries.items)) self.now.taken }
     {
         match self.entries.get(self.source) {
             Some(entry) => byte_count(entry) <= self.taken,
@@ -134,9 +138,13 @@ impl Schedule {
         ensures place { self.new.place ≡ self.old.place }
         ensures latency { self.new.latency ≡ self.old.latency }
         ensures within { self.old.source ≤ self.old.place → self.new.source ≤ self.new.place }
-        ensures left { self.old.taken ≤ length (arrivals_at self.old.source self.old.entries.items) → left_of self.new ≡ left_of self.old }
-        ensures clear { self.new.source < self.new.place → self.new.taken < length (arrivals_at self.new.source self.new.entries.items) }
-        ensures fresh { (self.old.place ≤ self.old.source → self.old.taken ≡ 0) → self.new.place ≤ self.new.source → self.new.taken ≡ 0 }
+        ensures left { self.old.taken ≤ length (arrivals_at self.old.source self.old.entries.items)
+            → left_of self.new ≡ left_of self.old }
+        ensures clear { self.new.source < self.new.place
+            → self.new.taken < length (arrivals_at self.new.source self.new.entries.items) }
+        ensures fresh { (self.old.place ≤ self.old.source → self.old.taken ≡ 0)
+            → self.new.place ≤ self.new.source
+            → self.new.taken ≡ 0 }
     {
         'spent: while self.source < self.place && self.is_spent() {
             self.source += 1;
@@ -146,8 +154,12 @@ impl Schedule {
 
     /// Goes on to this step, and answers the ticks of the entries that fell due, modulo 2 ^ 64.
     pub fn advance(&mut self, step: u32) -> u64
-        ensures follows { (entries : List Arrives) (taken : ℕ) → RisesFrom 0 entries → Follows entries step taken self.old → Follows entries (step + 1) taken self.new }
-        ensures ticks { (result + ticks_before self.old.place self.old.entries.items) % 2 ^ 64 ≡ ticks_before self.new.place self.old.entries.items % 2 ^ 64 }
+        ensures follows { (entries : List Arrives) (taken : ℕ)
+            → RisesFrom 0 entries
+            → Follows entries step taken self.old
+            → Follows entries (step + 1) taken self.new }
+        ensures ticks { (result + ticks_before self.old.place self.old.entries.items) % 2 ^ 64
+            ≡ ticks_before self.new.place self.old.entries.items % 2 ^ 64 }
         ensures entries { self.new.entries.items ≡ self.old.entries.items }
     {
         let passed = self.pass_due(step);
@@ -157,7 +169,8 @@ impl Schedule {
 
     /// The step before which the next entry is due.
     pub fn due(&self) -> u64
-        ensures { RisesFrom 0 self.now.entries.items → AreLater result (drop self.now.place self.now.entries.items) }
+        ensures { RisesFrom 0 self.now.entries.items
+            → AreLater result (drop self.now.place self.now.entries.items) }
     {
         if self.place < self.entries.len() {
             u64::from(step_of(&self.entries[self.place]))
@@ -197,7 +210,9 @@ impl Schedule {
     /// Takes the serial byte that waits, if one does.
     pub fn take(&mut self) -> Supplied
         ensures byte { result ≡ byte_given (next_byte self.old) }
-        ensures follows { (entries : List Arrives) (begun taken : ℕ) → Follows entries begun taken self.old → Follows entries begun (if nat_lt self.old.source self.old.place then taken + 1 else taken) self.new }
+        ensures follows { (entries : List Arrives) (begun taken : ℕ)
+            → Follows entries begun taken self.old
+            → Follows entries begun (if nat_lt self.old.source self.old.place then taken + 1 else taken) self.new }
         ensures place { self.new.place ≡ self.old.place }
         ensures entries { self.new.entries.items ≡ self.old.entries.items }
     {

@@ -2,7 +2,7 @@
 //! (Privileged manual, 3.2.1.)
 ghost use Rattle.std.specs.Prelude.{◌≡◌, ℕ, ◌+◌, ◌-◌, ◌%◌, ◌^◌, ◌≤◌, nat_le};
 ghost use Rattle.machine_model.specs.Board as model;
-ghost use Rattle.rv_devices.specs.Times.{Times};
+ghost use Rattle.rv_devices.specs.Times.{Times, passed, rises_kept, steady_until};
 
 /// The two counts, and when the first one rises next.
 #[derive(Drop)]
@@ -31,7 +31,10 @@ impl Timer {
 
     /// Goes on to this step.
     pub fn advance(&mut self, step: u32)
-        ensures times { (clock ticks offset : ℕ) → 1 ≤ clock → Times clock step ticks offset self.old → Times clock (step + 1) ticks offset self.new }
+        ensures times { (clock ticks offset : ℕ)
+            → 1 ≤ clock
+            → Times clock step ticks offset self.old
+            → Times clock (step + 1) ticks offset self.new }
         ensures compare { self.new.compare ≡ self.old.compare }
     {
         if u64::from(step) == self.rise {
@@ -40,9 +43,48 @@ impl Timer {
         }
     }
 
+    /// Goes on to where so many steps have begun.
+    #[inline]
+    pub fn pass(&mut self, begun: u64)
+        ensures passes { 1 ≤ self.old.clock → begun ≤ 2 ^ 32 → self.old.rise ≤ 2 ^ 32 + self.old.clock
+            → self.new ≡ passed self.old begun }
+        ensures compare { self.new.compare ≡ self.old.compare }
+    {
+        if begun > self.rise {
+            let clock = u64::from(self.clock.max(1));
+            let rises = (begun - 1 - self.rise) / clock + 1;
+            self.count = self.count.wrapping_add(rises);
+            self.rise = self.rise.wrapping_add(rises.wrapping_mul(clock));
+        }
+    }
+
+    // How often it may rise while its line stays.
+    fn rises_kept(&self) -> u64
+        ensures { result ≡ rises_kept self.now }
+    {
+        if self.count < self.compare {
+            self.compare - self.count - 1
+        } else {
+            u64::MAX - self.count
+        }
+    }
+
+    /// Up to which step its line stays as it is, where only its clock moves it.
+    #[inline]
+    pub fn steady(&self) -> u64
+        ensures { result ≤ steady_until self.now }
+    {
+        let clock = u64::from(self.clock);
+        self.rise
+            .saturating_add(self.rises_kept().saturating_mul(clock))
+    }
+
     /// Rises by so many ticks.
     pub fn pulse(&mut self, ticks: u64)
-        ensures times { (clock begun before after offset : ℕ) → (ticks + before) % 2 ^ 64 ≡ after % 2 ^ 64 → Times clock begun before offset self.old → Times clock begun after offset self.new }
+        ensures times { (clock begun before after offset : ℕ)
+            → (ticks + before) % 2 ^ 64 ≡ after % 2 ^ 64
+            → Times clock begun before offset self.old
+            → Times clock begun after offset self.new }
         ensures compare { self.new.compare ≡ self.old.compare }
         ensures rise { self.new.rise ≡ self.old.rise }
     {

@@ -1,4 +1,5 @@
 //! The recorder.
+ghost use Rattle.memory_map.specs.declared.TheConstants.{LEAST_RAM_KIB, MOST_RAM_KIB, MOST_STEPS};
 ghost use Rattle.std.specs.Prelude.{◌≡◌, ◌+◌, ◌%◌, ◌*◌, ◌^◌, ◌<◌, ◌≤◌, ℕ, false, true, List, IfOk, IsTrue, length, map, vec_len};
 ghost use Rattle.any_machine.specs.Log.{items};
 ghost use Rattle.any_machine.specs.Machine.{is_load};
@@ -39,7 +40,7 @@ pub struct Machine {
     phase: Phase,
     ghost begun: { steps_begun board ≡ cpu.step + inside phase },
     ghost drained: { words_due board ≤ sends phase },
-    ghost room: { cpu.step + left + inside phase ≤ 1000000000 },
+    ghost room: { cpu.step + left + inside phase ≤ MOST_STEPS },
     ghost given: { awaits phase (is_load (needs cpu lines)) ≡ true },
     ghost size: { length cpu.ram ≤ 2 ^ 24 },
 }
@@ -47,8 +48,8 @@ pub struct Machine {
 // The hart of a guest before its first step, over the RAM that its image fills.
 #[tactic(auto, unfolding(machine_model::specs::Image::ram_at_start))]
 fn start(alloc: Global, image: &Image, ram_kib: u32) -> Result<Cpu, NoMemory>
-    requires least { 64 ≤ ram_kib }
-    requires most { ram_kib ≤ 16384 }
+    requires least { LEAST_RAM_KIB ≤ ram_kib }
+    requires most { ram_kib ≤ MOST_RAM_KIB }
     requires loadable { IsLoadable (1024 * ram_kib) image.now.segments }
     requires aligned { image.now.entry % grain ≡ 0 }
     ensures start { IfOk result (λ cpu. cpu ≡ started image.now ram_kib) }
@@ -73,14 +74,15 @@ impl Machine {
         ram_kib: u32,
         limit: u32,
     ) -> Result<Machine, NoMemory>
-        requires least { 64 ≤ ram_kib }
-        requires most { ram_kib ≤ 16384 }
-        requires limit { limit ≤ 1000000000 }
+        requires least { LEAST_RAM_KIB ≤ ram_kib }
+        requires most { ram_kib ≤ MOST_RAM_KIB }
+        requires limit { limit ≤ MOST_STEPS }
         requires loadable { IsLoadable (1024 * ram_kib) image.now.segments }
         requires aligned { image.now.entry % grain ≡ 0 }
         requires script { IsPlayable script }
         requires disk { vec_len disk ≤ 2 ^ 24 }
-        ensures { IfOk result (λ machine. ToCome machine (items (run image.now script disk.items ram_kib limit))) }
+        ensures { IfOk result (λ machine. ToCome machine
+            (items (run image.now script disk.items ram_kib limit))) }
     {
         let cpu = start(alloc, image, ram_kib)?;
         let board = Board::new(alloc, script, disk)?;
@@ -96,7 +98,8 @@ impl Machine {
     /// Runs on to the next record and no further: at most 256 steps. `byte` is the output of the step that a record says is
     /// done. `Ended` comes exactly after the record of the end, and then at each later call. It takes no memory.
     pub fn advance(&mut self) -> Advance
-        ensures next { (items : List Item) → ToCome self.old items → Advances recording items self.new result }
+        ensures next { (items : List Item) → ToCome self.old items
+            → Advances recording items self.new result }
         ensures falls { Falls recording self.old self.new result }
         ensures few { self.new.cpu.step ≤ self.old.cpu.step + 256 }
     {
@@ -283,7 +286,9 @@ fn store_access(board: &mut Board, access: &Access, ram: &Ram)
     requires begun { 1 ≤ steps_begun board.old }
     requires at { AtRegister access.now }
     requires ram { length ram.now ≤ 2 ^ 24 }
-    ensures stands { (script : Outside) (step : ℕ) (words : List Written) (state : BoardState) → Stands script (step + 1) words state board.old → Stands script (step + 1) words (after_access script step ram.now state access.now) board.new }
+    ensures stands { (script : Outside) (step : ℕ) (words : List Written) (state : BoardState)
+        → Stands script (step + 1) words state board.old
+        → Stands script (step + 1) words (after_access script step ram.now state access.now) board.new }
     ensures begun { steps_begun board.new ≡ steps_begun board.old }
     ensures left { words_due board.new ≡ words_due board.old }
 {
@@ -307,7 +312,9 @@ fn store_outside(board: &mut Board, event: &Event, ram: &Ram)
     requires begun { 1 ≤ steps_begun board.old }
     requires at { IsAtRegister event.now }
     requires ram { length ram.now ≤ 2 ^ 24 }
-    ensures stands { (script : Outside) (step : ℕ) (words : List Written) (state : BoardState) → Stands script (step + 1) words state board.old → Stands script (step + 1) words (after_event script step ram.now state event.now) board.new }
+    ensures stands { (script : Outside) (step : ℕ) (words : List Written) (state : BoardState)
+        → Stands script (step + 1) words state board.old
+        → Stands script (step + 1) words (after_event script step ram.now state event.now) board.new }
     ensures begun { steps_begun board.new ≡ steps_begun board.old }
     ensures left { words_due board.new ≡ words_due board.old }
 {

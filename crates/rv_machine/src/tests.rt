@@ -27,6 +27,9 @@ const READING: [u32; 13] = [
     0x00032e83, 0x100002b7, 0x01d28023, 0x10100637, 0x00062023,
 ];
 
+// It goes nowhere.
+const LOOPING: [u32; 1] = [0x0000006f];
+
 // It takes a serial byte through mscratch into a jump.
 const JUMPING: [u32; 11] = [
     0x100002b7, 0x0002c303, 0x34031073, 0x340023f3, 0xf9f38393, 0x00000e17, 0x01c383b3, 0x01038067,
@@ -42,6 +45,17 @@ fn sent(step: u32, byte: u8) -> Item {
         item: Record::Reach { step },
         byte: Some(byte),
     }
+}
+
+fn mark(step: u32) -> Item {
+    plain(Record::Reach { step })
+}
+
+fn limit(step: u32) -> Item {
+    plain(Record::End {
+        step,
+        cause: EndCause::Limit,
+    })
 }
 
 fn lines(step: u32, bits: u8) -> Item {
@@ -78,16 +92,17 @@ fn what(alloc: Global, arrival: Arrival) -> Result<What, NoMemory> {
     })
 }
 
-// The recorder of a guest of these words, at whose step `at` this arrives.
+// The recorder of a guest of these words, at whose step `at` this arrives, and whose timer rises each `clock` steps.
 fn recorder(
     rt: &impl Abort,
     alloc: Global,
     words: &[u32],
     at: u32,
     arrival: Arrival,
+    clock: u32,
     disk: Vec<u8>,
 ) -> Result<Machine, NoMemory> {
-    assert!(rt; words.len() <= 18 && disk.len() <= 512);
+    assert!(rt; words.len() <= 18 && disk.len() <= 512 && clock > 0);
     let mut file = Vec::new(alloc);
     for word in words {
         for byte in word.to_le_bytes() {
@@ -98,7 +113,7 @@ fn recorder(
     let image = read_flat(alloc, file)?;
     let what = what(alloc, arrival)?;
     let script = Script {
-        clock: 1000,
+        clock,
         sectors: Vec::new(alloc),
         entries: vec![in alloc; Entry { at, what }]?,
     };
@@ -157,7 +172,7 @@ fn guests_are_told_by_their_items(rt: HostRuntime) -> Result<(), NoMemory> {
         ),
     ];
     for (name, words, at, arrival, items) in guests {
-        let mut guest = recorder(&rt, alloc, words, at, arrival, Vec::new(alloc))?;
+        let mut guest = recorder(&rt, alloc, words, at, arrival, 1000, Vec::new(alloc))?;
         expect(&rt, &mut guest, name, items);
         assert_eq!(rt; guest.advance(), Advance::Ended, "{name}");
         assert_eq!(rt; guest.advance(), Advance::Ended, "{name}");
@@ -170,7 +185,7 @@ fn the_words_of_a_sector_are_told_before_their_step(rt: HostRuntime) -> Result<(
     let alloc = rt.alloc();
     let disk = vec![in alloc; 0x51]?;
     let latency = Arrival::Latency { steps: 4 };
-    let mut reading = recorder(&rt, alloc, &READING, 0, latency, disk)?;
+    let mut reading = recorder(&rt, alloc, &READING, 0, latency, 1000, disk)?;
     expect(&rt, &mut reading, "before", &[load(6, 1, 0), load(8, 1, 0)]);
     for place in 0..128u32 {
         let word = plain(Record::Dma {
@@ -187,5 +202,20 @@ fn the_words_of_a_sector_are_told_before_their_step(rt: HostRuntime) -> Result<(
         "after",
         &[load(10, 2, 0), sent(15, 0x51), power(17)],
     );
+    Ok(())
+}
+
+#[test]
+fn plain_steps_end_where_something_is_due(rt: HostRuntime) -> Result<(), NoMemory> {
+    let alloc = rt.alloc();
+    let byte = Arrival::Serial {
+        byte: 0x61,
+        mark: 0,
+    };
+    let mut risen = recorder(&rt, alloc, &TIMED, 900, byte, 5, Vec::new(alloc))?;
+    expect(&rt, &mut risen, "a risen timer", &[lines(25, 1), power(28)]);
+    let mut looping = recorder(&rt, alloc, &LOOPING, 300, byte, 7, Vec::new(alloc))?;
+    let marks = [mark(256), mark(512), mark(768), limit(1000)];
+    expect(&rt, &mut looping, "a loop", &marks);
     Ok(())
 }

@@ -1,4 +1,5 @@
 //! The records that a step's inputs and its event make.
+ghost use Rattle.memory_map.specs.declared.TheConstants.{MOST_STEPS};
 ghost use Rattle.std.specs.Prelude.{◌≡◌, ◌+◌, ◌<◌, List};
 ghost use Rattle.any_machine.specs.Log.{plain_item, reach_items, word_record};
 ghost use Rattle.any_machine.specs.Machine.{power_status};
@@ -29,7 +30,7 @@ pub fn word_item(step: u32, word: &DmaWord) -> Item
 
 /// That a step is done, where its event sent a byte, or where its number plus 1 is a multiple of 256.
 pub fn reach_item(step: u32, event: &Event) -> Option<Item>
-    requires { step < 1000000000 }
+    requires { step < MOST_STEPS }
     ensures { items_of result ≡ reach_items step event.now }
 {
     let byte = event.byte_stored(SERIAL_DATA);

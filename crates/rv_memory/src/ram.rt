@@ -1,4 +1,5 @@
 //! RAM, byte by byte.
+ghost use Rattle.memory_map.specs.declared.TheConstants.{LEAST_RAM_KIB, MOST_RAM_KIB};
 ghost use Rattle.std.specs.Prelude.{◌≡◌, ◌⊎◌, ℕ, ◌+◌, ◌-◌, ◌*◌, ◌^◌, ◌<◌, ◌≤◌, List, length, take, drop, replicate, IfOk};
 ghost use Rattle.std.specs.Int.{w16, w32, from_le_bytes};
 ghost use Rattle.memory_map.specs.Ram.{InRam, IsWidth, in_ram};
@@ -47,8 +48,8 @@ fn word_at(bytes: &[u8], at: usize) -> u32
 impl Ram {
     /// A RAM of this many KiB, with all bytes 0. It is the only call that takes memory.
     pub fn new(alloc: Global, kib: u32) -> Result<Ram, NoMemory>
-        requires least { 64 ≤ kib }
-        requires most { kib ≤ 16384 }
+        requires least { LEAST_RAM_KIB ≤ kib }
+        requires most { kib ≤ MOST_RAM_KIB }
         ensures { IfOk result (λ ram. ram ≡ replicate (1024 * kib) 0) }
     {
         Ok(Ram {

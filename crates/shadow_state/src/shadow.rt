@@ -1,6 +1,6 @@
 //! The shadow of RAM.
 ghost use Rattle.std.specs.Prelude.{◌≡◌, ℕ, ◌+◌, ◌-◌, ◌*◌, ◌^◌, ◌<◌, ◌≤◌, true, min, List, [], ◌∷◌, ◌++◌, length, take, drop, replicate, slice_index, IfOk, IfSome, IfNone};
-ghost use Rattle.memory_map.specs.declared.TheConstants.{RAM_START};
+ghost use Rattle.memory_map.specs.declared.TheConstants.{LEAST_RAM_KIB, MOST_RAM_KIB, RAM_START};
 ghost use Rattle.shadow_state.specs.Shade.{Shade, Paint, shade, has_byte, painted_from, painted, last_paint, IsPainted, IsLeast, NoneBetween};
 ghost use Rattle.shadow_state.specs.Places.{IsFirstPlace, NoPlace};
 
@@ -28,8 +28,8 @@ impl Model for Shadow {
 impl Shadow {
     /// The shadow of a RAM of `ram_kib` KiB, all 0. It is the only call that takes memory.
     pub fn new(alloc: Global, ram_kib: u32) -> Result<Shadow, NoMemory>
-        requires least { 64 ≤ ram_kib }
-        requires most { ram_kib ≤ 16384 }
+        requires least { LEAST_RAM_KIB ≤ ram_kib }
+        requires most { ram_kib ≤ MOST_RAM_KIB }
         ensures size { IfOk result (λ s. length s.bytes ≡ 1024 * ram_kib) }
         ensures clear { IfOk result (λ s. IsPainted s []) }
     {

@@ -1,4 +1,5 @@
 //! The marks of registers, of mscratch and of RAM.
+ghost use Rattle.memory_map.specs.declared.TheConstants.{LEAST_RAM_KIB, MOST_RAM_KIB};
 ghost use Rattle.std.specs.Prelude.{◌≡◌, ℕ, ◌+◌, ◌*◌, ◌≤◌, ◌<◌, ◌^◌, not, min, List, [], ◌∷◌, ◌++◌, length, unwrap_or, IfOk, Option, None, Some};
 ghost use Rattle.std.specs.Option.{option_map, option_or};
 ghost use Rattle.run_events.specs.declared.event.Event.{Event};
@@ -42,6 +43,7 @@ pub struct Taint {
 }
 
 impl Model for Taint {
+    ghost use Rattle.memory_map.specs.declared.TheConstants.{MOST_RAM_KIB};
     ghost use Rattle.std.specs.Prelude.{◌≡◌, ◌*◌, ◌≤◌, length};
     ghost use Rattle.taint_marks.specs.Marks.{Marks};
 
@@ -49,7 +51,7 @@ impl Model for Taint {
 
     ghost view = { λ t. record { ram_kib = t.ram_kib; registers = t.registers; scratch = t.scratch; shade = t.shadow; found = t.found } };
 
-    ghost invariant = { λ t. (t.ram_kib ≤ 16384) × (length t.shadow.bytes ≡ 1024 * t.ram_kib) };
+    ghost invariant = { λ t. (t.ram_kib ≤ MOST_RAM_KIB) × (length t.shadow.bytes ≡ 1024 * t.ram_kib) };
 }
 
 impl Watcher for Taint {
@@ -68,8 +70,8 @@ impl Taint {
     /// Nothing seen yet, of a guest with `ram_kib` KiB of RAM; its image does not matter. It is the only call that takes
     /// memory.
     pub fn new(alloc: Global, image: &Image, ram_kib: u32) -> Result<Taint, NoMemory>
-        requires least { 64 ≤ ram_kib }
-        requires most { ram_kib ≤ 16384 }
+        requires least { LEAST_RAM_KIB ≤ ram_kib }
+        requires most { ram_kib ≤ MOST_RAM_KIB }
         ensures seen { IfOk result (λ t. Stands t []) }
         ensures size { IfOk result (λ t. t.ram_kib ≡ ram_kib) }
         ensures made { IfOk result (λ t. make_now t ≡ make_of kind.Taint image.now) }
@@ -192,7 +194,8 @@ impl Taint {
     }
 
     fn first_marked(&self, from: u64, to: u64) -> Option<u32>
-        ensures { result ≡ least_in_ram self.now.ram_kib (λ a. is_marked (mark_now self.now (Byte a))) from to }
+        ensures { result
+            ≡ least_in_ram self.now.ram_kib (λ a. is_marked (mark_now self.now (Byte a))) from to }
     {
         self.shadow.first_of(from, to, u8::MAX)
     }

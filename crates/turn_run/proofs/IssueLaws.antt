@@ -1,4 +1,5 @@
 -- The gate of a run, when bytes are issued to it.
+use Rattle.memory_map.specs.declared.TheConstants.{MOST_STEPS}
 use Rattle.std.proofs.Common.{◌≡◌, ℕ, zero, suc, ◌+◌, ◌-◌, ◌<◌, ◌≤◌, Bool, true, false, cond, List, [], ◌∷◌, ◌++◌, length, drop, Option, Some, None, refl, sym, ap, subst, ◌∙◌, arith, append-nil}
 use Rattle.std.specs.Prelude.{nat_lt, nat_le, ◌&&◌, is_some, IfSome}
 use Rattle.std.specs.Option.{option_map}
@@ -133,7 +134,7 @@ under_by : (low : ℕ) (item : ℕ) (o : Option ℕ) → item ≡ low → IfSome
 under_by low item None is marked = All-nil (λ (byte : ℕ × ℕ). byte.0 < low)
 under_by low item (Some byte) is marked = All-push (λ (byte : ℕ × ℕ). byte.0 < low) [] (item - 1, byte) (All-nil (λ (byte : ℕ × ℕ). byte.0 < low)) (omega (arith, is, marked))
 
-marked_number : (i : Item) (o : Option ℕ) → IfSome o (λ byte. (k : ℕ) × (i.item ≡ Reach (k + 1)) × (k < 1000000000)) → IfSome o (λ byte. 1 ≤ number i.item)
+marked_number : (i : Item) (o : Option ℕ) → IfSome o (λ byte. (k : ℕ) × (i.item ≡ Reach (k + 1)) × (k < MOST_STEPS)) → IfSome o (λ byte. 1 ≤ number i.item)
 marked_number i None marked = tt
 marked_number i (Some byte) (k, is, less) = omega (arith, ap number is)
 

@@ -1,4 +1,5 @@
 -- What single parts of a run say: verdicts that are posted, and readers one after another.
+use Rattle.memory_map.specs.declared.TheConstants.{MOST_STEPS}
 use Rattle.std.proofs.Common.{◌≡◌, ℕ, zero, suc, ◌+◌, ◌<◌, Bool, true, false, cond, List, [], ◌∷◌, ◌++◌, length, get_or, take, refl, sym, ap, ◌∙◌, append-nil}
 use Rattle.std.specs.Prelude.{min, slice_index}
 use Rattle.std.proofs.lemmas.List.{take_more}
@@ -26,7 +27,7 @@ module _ (hub : HubState) (readers : List ℕ) (place : ℕ) (there : place < le
   least-next least verdict posted before =
       let here : verdict.approved ≡ slice_index (approvals hub.verdicts) (slice_index readers place) = ap (λ (v : Verdict). v.approved) posted ∙ approved_is hub (slice_index readers place) in
       (λ i. min (here i) (before i))
-      ∙ sym (least-push (approvals hub.verdicts) 1000000000 (take place readers) (slice_index readers place))
+      ∙ sym (least-push (approvals hub.verdicts) MOST_STEPS (take place readers) (slice_index readers place))
       ∙ ap (least_approved (approvals hub.verdicts)) (sym (take_more readers place 0 there))
 
   -- what is withheld from for one reader more

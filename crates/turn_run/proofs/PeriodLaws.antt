@@ -1,4 +1,5 @@
 -- What the turns of a period move, and where they lead.
+use Rattle.memory_map.specs.declared.TheConstants.{MOST_STEPS}
 use Rattle.std.proofs.Common.{◌≡◌, ◌⊎◌, inl, inr, ℕ, ◌+◌, ◌-◌, ◌*◌, ◌<◌, ◌≤◌, true, cond, List, [], ◌++◌, length, take, drop, refl, sym, ap, subst, ◌∙◌, arith}
 use Rattle.std.specs.Prelude.{get_or, slice_index}
 use Rattle.std.specs.List.{All, Contains}
@@ -154,7 +155,7 @@ module _ {M F : Type 0} (r : Recording M) (f : Following F) (c : Course) where
         let took = event_IsSound (plan_of c) core (TakeNext reader) is at.follows.sound (there, less) in
         let one = took.readers reader there in
         let low : slice_index core.approved reader ≤ approves (plan_of c) (after_event (plan_of c) core (TakeNext reader)) reader = omega (arith, one.limit, one.seen) in
-        let grows = least-rises core.approved (after_turn c core reader).approved 1000000000 c.required
+        let grows = least-rises core.approved (after_turn c core reader).approved MOST_STEPS c.required
         (λ place lt. set_grows core.approved reader (approves (plan_of c) (after_event (plan_of c) core (TakeNext reader)) reader) low (slice_index c.required place)) in
         record {
           steps = g.steps;

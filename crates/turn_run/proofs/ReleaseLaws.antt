@@ -1,4 +1,5 @@
 -- The gate of a run, when it releases and withholds.
+use Rattle.memory_map.specs.declared.TheConstants.{MOST_STEPS}
 use Rattle.std.proofs.Common.{◌≡◌, inl, inr, ℕ, zero, suc, ◌+◌, ◌-◌, ◌<◌, ◌≤◌, true, false, List, [], length, take, drop, Option, Some, None, refl, sym, ap, subst, ◌∙◌, arith, lt-ltb, ltb-true}
 use Rattle.std.specs.Prelude.{nat_lt, slice_index, get_or, filter}
 use Rattle.std.specs.List.{All}
@@ -198,7 +199,7 @@ module _ (c : Course) (is : IsCourse c) (core : CoreState) (gate : GateState) (g
           record {
             reached = omega (arith, here, reach);
             approved = λ reader required. (
-                let each = least-each core.approved 1000000000 c.required required.0 required.1 in
+                let each = least-each core.approved MOST_STEPS c.required required.0 required.1 in
                 subst (λ r. slice_index (steps_of (output_of c)) byte < slice_index core.approved r) required.2 (omega (arith, here, low, least, each)));
           };
     }

@@ -1,4 +1,5 @@
 -- A turn of the gate, where the core stands.
+use Rattle.memory_map.specs.declared.TheConstants.{MOST_STEPS}
 use Rattle.std.proofs.Common.{◌≡◌, ◌⊎◌, inl, inr, ℕ, ◌+◌, ◌<◌, ◌≤◌, true, false, Bool, List, [], length, take, drop, refl, sym, ap, subst, ◌∙◌, arith}
 use Rattle.std.specs.Prelude.{slice_index}
 use Rattle.std.specs.List.{All}
@@ -82,7 +83,7 @@ module _ {M F : Type 0} (r : Recording M) (f : Following F) (c : Course) (core :
     pub passed_low : (gate : GateState) → gate ≡ with_release parts.gate (count_below below parts.gate.steps) → All (λ reader. gate.passed ≤ approved_at parts.hub reader) parts.required.items
     passed_low gate made = subst (All (λ reader. gate.passed ≤ approved_at parts.hub reader)) (sym at.required)
         (All-from_get_or (λ reader. gate.passed ≤ approved_at parts.hub reader) c.required 0 (λ place less.
-        let each = least-each core.approved 1000000000 c.required place less in
+        let each = least-each core.approved MOST_STEPS c.required place less in
         omega (arith, ap (λ (g : GateState). g.passed) made, gates_now.passed, each, posted_is (slice_index c.required place))))
 
     gates_after : Gates c (with_released core (core.released + count_below below parts.gate.steps)) (withheld_from (refusals parts.hub c.required) (with_release parts.gate (count_below below parts.gate.steps)))
@@ -106,7 +107,7 @@ module _ {M F : Type 0} (r : Recording M) (f : Following F) (c : Course) (core :
         gone (none_waits c is core parts.gate at.gates below least short (omega (arith, agrees.approved, agrees.passed passed, posted_is reader, here)))
 
     none_left : AllTaken c core → (withheld_from (refusals parts.hub c.required) (with_release parts.gate (count_below below parts.gate.steps))).steps ≡ []
-    none_left taken = elim (least-is core.approved 1000000000 c.required) [
+    none_left taken = elim (least-is core.approved MOST_STEPS c.required) [
       | inl all ↦ gone (none_waits c is core parts.gate at.gates below least short (omega (arith, reach_within c is core.appended, is.within, least, all)))
       | inr (place, less, here) ↦ by_verdict place less (least ∙ here) (taken (slice_index c.required place) (required_there place less)) (verdict_at parts.hub (slice_index c.required place)).refused refl
     ]

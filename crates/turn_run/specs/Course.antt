@@ -1,4 +1,5 @@
 -- What a run is to come to: the records of its log, and what its replicas will say of them.
+use Rattle.memory_map.specs.declared.TheConstants.{MOST_STEPS}
 use Rattle.std.specs.Prelude.{◌≡◌, ℕ, ◌+◌, ◌≤◌, ◌<◌, ◌^◌, true, false, List, [], ◌∷◌, length, map, min, slice_index, IfSome}
 use Rattle.std.specs.List.{All}
 use Rattle.run_events.specs.declared.record.Record.{Record}
@@ -53,7 +54,7 @@ plan_of c = record { items = log_of c; outputs = steps_of (output_of c); cap = c
 
 -- an item with a byte is the mark that the step is done which sent it
 abbrev pub IsMarked : Item → Type 0
-IsMarked i = IfSome i.byte (λ byte. (k : ℕ) × (i.item ≡ Reach (k + 1)) × (k < 1000000000))
+IsMarked i = IfSome i.byte (λ byte. (k : ℕ) × (i.item ≡ Reach (k + 1)) × (k < MOST_STEPS))
 
 -- the records are those of a run, and the steps of its output rise
 pub record IsCourse (c : Course) : Type 0 where
@@ -61,7 +62,7 @@ pub record IsCourse (c : Course) : Type 0 where
   pub records : All IsRecord (log_of c)
   pub marked : All IsMarked c.items
   pub climbs : Climbs 0 (steps_of (output_of c)) (end_of c)
-  pub within : end_of c ≤ 1000000000
+  pub within : end_of c ≤ MOST_STEPS
   pub short : length c.items ≤ 2 ^ 61
   pub cap : 1 ≤ c.cap
   pub readers : length c.limits ≤ 8

@@ -1,4 +1,5 @@
 -- The gate of a run, where the core stands.
+use Rattle.memory_map.specs.declared.TheConstants.{MOST_STEPS}
 use Rattle.std.specs.Prelude.{◌≡◌, ℕ, ◌-◌, ◌<◌, ◌≤◌, false, if◌then◌else◌, List, [], ◌∷◌, length, take, drop, slice_index, Option, Some, None}
 use Rattle.run_events.specs.Record.{number}
 use Rattle.run_events.specs.declared.item.Item.{Item}
@@ -38,7 +39,7 @@ IsWithheldFrom c (Some from) = IsLimit c from
 
 -- below which step all of these readers approve, by what each approves; where there are none, all
 abbrev pub least_approved : List ℕ → List ℕ → ℕ
-least_approved approved readers = least_limit approved 1000000000 readers
+least_approved approved readers = least_limit approved MOST_STEPS readers
 
 -- The bytes of the appended records were issued. What is not released and not withheld waits, and what was put is
 -- approved by each required replica.

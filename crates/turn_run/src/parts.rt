@@ -18,7 +18,7 @@ use crate::{Follower, Turn, read_next};
 use after_edge::Sink;
 use any_machine::Recorder;
 use gate_core::Hub;
-use memory_map::NoMemory;
+use memory_map::{MOST_STEPS, NoMemory};
 use output_gate::{OutputGate, ROOM, SinkFault};
 use run_events::{Item, Record};
 use std::alloc::Global;
@@ -165,15 +165,12 @@ fn issue(gate: &mut OutputGate, item: Item)
     }
 }
 
-/// More than each step of a run.
-const ALL_STEPS: u32 = 1_000_000_000;
-
 // Below which step all of these readers approve; where there are none, all.
 fn least_approved(hub: &Hub, required: &[u32]) -> u32
     requires { All (λ reader. reader < length hub.now.taken) required.now }
     ensures { result ≡ least_approved (approvals hub.now.verdicts) required.now }
 {
-    let mut least = ALL_STEPS;
+    let mut least = MOST_STEPS;
     for reader in required {
         least = hub.look(*reader).approved.min(least);
     }

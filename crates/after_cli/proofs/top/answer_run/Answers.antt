@@ -1,19 +1,24 @@
 use Rattle.std.proofs.Common.{arith}
-use Rattle.command_words.specs.Limits.{IsWithin}
+use Rattle.std.specs.Prelude.{count_ones}
+use Rattle.std.specs.List.{Contains}
+use Rattle.std.proofs.lemmas.Bool.{eqb-true}
+use Rattle.command_words.specs.Sound.{IsSoundRun}
 use Rattle.command_words.specs.Says.{run_said}
+use Rattle.after_cli.proofs.AskedLaws.{each_item}
 use Rattle.after_cli.proofs.LogSizes.{cap_from_size}
 use Rattle.after_cli.proofs.top.answer_run.Goals as goal
 
 pub run_job-requires-clause-runnable : goal.run_job-requires-clause-runnable
 run_job-requires-clause-runnable g c =
-    let asked : IsWithin (run_said c.args.run.now) = c.requires in
+    let run = run_said c.args.run.now in
+    let asked : IsSoundRun run = c.requires in
     record {
-      least = asked.ram_least;
-      most = asked.ram_most;
-      limit = asked.limit;
-      cap = cap_from_size c.args.run.now.log asked.log.least asked.log.most asked.log.power;
-      some = asked.some;
-      required = asked.required;
+      least = asked.ram.0;
+      most = asked.ram.1;
+      limit = asked.limit.1;
+      cap = cap_from_size run.log asked.log.0.0 asked.log.0.1 (eqb-true (count_ones run.log) 1 asked.log.1);
+      some = omega (arith, asked.chosen.0);
+      required = each_item (Contains run.kinds) run.required asked.required;
       loadable = c.in-Ok.ensures.fits.loadable;
       aligned = c.in-Ok.ensures.fits.aligned;
       playable = c.in-Ok.ensures.playable;

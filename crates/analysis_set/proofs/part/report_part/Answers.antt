@@ -1,4 +1,4 @@
-use Rattle.std.proofs.Common.{◌≡◌, ◌∙◌}
+use Rattle.std.proofs.Common.{◌∙◌}
 use Rattle.std.proofs.lemmas.Result.{on_err_weaker}
 use Rattle.after_edge.proofs.SinkLaws.{Writes-same, Writes-then, WritesPart-then, WritesPart-more}
 use Rattle.analysis_model.specs.Made.{kind_made_of}

@@ -1,4 +1,4 @@
-use Rattle.std.proofs.Common.{◌≡◌, ◌+◌, ◌∙◌, refl, sym, ap, get_or, length, ◌≤◌, arith}
+use Rattle.std.proofs.Common.{◌+◌, ◌∙◌, refl, sym, ap, get_or, length, ◌≤◌, arith}
 use Rattle.lock_rules.specs.declared.guard.Guard.{Guard}
 use Rattle.lock_rules.specs.Lesser.{lesser}
 use Rattle.lock_rules.proofs.OpenLaws.{open_from, open_more, open_end}

@@ -1,4 +1,4 @@
-use Rattle.std.proofs.Common.{◌≡◌, ◌<◌, ◌∙◌, None, refl, ap, get_or, set, length, arith}
+use Rattle.std.proofs.Common.{◌<◌, ◌∙◌, None, ap, get_or, set, length, arith}
 use Rattle.std.proofs.lemmas.List.{get_or_default}
 use Rattle.std.proofs.lemmas.List.Edits.{map_over_more}
 use Rattle.lock_rules.specs.declared.lock.Lock.{Lock}

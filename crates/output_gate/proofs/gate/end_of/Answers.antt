@@ -1,3 +1,4 @@
+use Rattle.memory_map.specs.declared.TheConstants.{MOST_STEPS}
 use Rattle.std.proofs.Common.{◌≡◌, ◌+◌, ◌-◌, suc, slice_index, take, arith, ap, sym, ◌∙◌}
 use Rattle.std.proofs.lemmas.Option.{get_or_from_slice_get}
 use Rattle.output_gate.specs.Gate.{behind}
@@ -8,7 +9,7 @@ pub overflow_add-result : goal.overflow_add-result
 overflow_add-result c =
     let found = sym c.in-Some.ensures in
     let here : slice_index c.args.steps.now.items (c.args.count - 1) ≡ c.in-Some.step.now = get_or_from_slice_get c.args.steps.now.items (c.args.count - 1) c.in-Some.step.now 0 found in
-    omega (arith, here, Climbs-at c.args.steps.now.items 0 1000000000 (c.args.count - 1) c.requires.climbs (omega arith))
+    omega (arith, here, Climbs-at c.args.steps.now.items 0 MOST_STEPS (c.args.count - 1) c.requires.climbs (omega arith))
 
 pub returns-in-Some : goal.returns-in-Some
 returns-in-Some c =

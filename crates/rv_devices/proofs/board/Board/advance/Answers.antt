@@ -27,8 +27,7 @@ returns-clause-stands c = λ script state stands.
       serial_is = stands.serial_is;
       serves = c.advance-2.ensures script state stands.serves;
       is_quiet = record {
-        timer = omega (arith, c.min.ensures, c.min-self.ensures);
-        entries_later = AreLater-less c.min-self.result c.due.result (drop schedule.place script.entries) (omega (arith, c.min.ensures, c.min-self.ensures)) far;
-        disk = NotBefore-less c.min-self.result c.due-2.result c.advance-2.new.self.activity (omega (arith, c.min.ensures, c.min-self.ensures)) c.due-2.ensures;
+        entries_later = AreLater-less c.min-self.result c.due.result (drop schedule.place script.entries) (omega (arith, c.min-self.ensures)) far;
+        disk = NotBefore-less c.min-self.result c.due-2.result c.advance-2.new.self.activity (omega (arith, c.min-self.ensures)) c.due-2.ensures;
       };
     }

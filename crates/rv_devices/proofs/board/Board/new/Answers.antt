@@ -26,7 +26,6 @@ returns-clause-stands c =
       serial_is = refl;
       serves = serves;
       is_quiet = record {
-        timer = omega arith;
         entries_later = AreLater-zero (drop c.new.result.place script.entries);
         disk = NotBefore-zero c.new-3.result.activity;
       };

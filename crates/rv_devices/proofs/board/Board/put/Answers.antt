@@ -34,7 +34,6 @@ returns-in-DiskStatus-clause-stands c = λ script step words state s.
       serial_is = s.serial_is;
       serves = c.acknowledge.ensures.serves script words state s.serves;
       is_quiet = record {
-        timer = s.is_quiet.timer;
         entries_later = s.is_quiet.entries_later;
         disk = c.acknowledge.ensures.quiet c.args.self.now.quiet s.is_quiet.disk;
       };
