@@ -1,9 +1,7 @@
 //! Guests, word by word.
 
 /// It sends H.
-pub const HELLO: [u32; 5] = [
-    0x10000537, 0x04800593, 0x00b50023, 0x10100637, 0x00062023,
-];
+pub const HELLO: [u32; 5] = [0x10000537, 0x04800593, 0x00b50023, 0x10100637, 0x00062023];
 
 /// It announces that lock 9 guards the serial data register, and sends A before and twice after, without the lock.
 pub const UNGUARDED: [u32; 10] = [

@@ -99,35 +99,44 @@ fn files_with_a_header_run_as_flat_ones_do(rt: HostRuntime) -> Result<(), Fail> 
     Ok(())
 }
 
+// The place of four bytes, what stands there, and the line.
+const CHANGES: [(usize, u32, &str); 7] = [
+    (4, 0x0001_0102, "image: not this field 4\n"),
+    (128, 0x8000_001c, "image: segments 1 2 overlap\n"),
+    (128, 0x7fff_f000, "image: segment 2 outside\n"),
+    (24, 0x8000_0002, "image: entry outside\n"),
+    (44, 0, "image: no segment\n"),
+    (42, 0x0003_0028, "image: bad table\n"),
+    (104, 16, "image: segment 1 shape\n"),
+];
+
 #[test]
 fn a_broken_header_is_named_by_its_first_fault(rt: HostRuntime) -> Result<(), Fail> {
     let alloc = rt.alloc();
-    // The place of four bytes, what stands there, and the line.
-    let rows = [
-        (4, 0x0001_0102, "image: not this field 4\n"),
-        (128, 0x8000_001c, "image: segments 1 2 overlap\n"),
-        (128, 0x7fff_f000, "image: segment 2 outside\n"),
-        (24, 0x8000_0002, "image: entry outside\n"),
-        (44, 0, "image: no segment\n"),
-        (42, 0x0003_0028, "image: bad table\n"),
-        (104, 16, "image: segment 1 shape\n"),
-    ];
-    let cover = "run guest.bin guest.txt --with cover";
-    for (at, word, line) in rows {
+    for (at, word, line) in CHANGES {
         let image = changed(alloc, at, word)?;
         let wanted = Wanted {
             status: 3,
             text: &[],
             line,
         };
+        let cover = "run guest.bin guest.txt --with cover";
         expect_image(&rt, alloc, &image, "", cover, wanted)?;
     }
-    let whole = three_headers(alloc)?;
-    assert_eq!(rt; whole.len(), 172);
+    Ok(())
+}
+
+#[test]
+fn a_file_that_is_cut_short_is_refused(rt: HostRuntime) -> Result<(), Fail> {
+    let alloc = rt.alloc();
+    let mut image = three_headers(alloc)?;
+    assert_eq!(rt; image.len(), 172);
+    image.truncate(171);
+    let cover = "run guest.bin guest.txt --with cover";
     let wanted = Wanted {
         status: 3,
         text: &[],
         line: "image: short need 172\n",
     };
-    expect_image(&rt, alloc, &whole[..171], "", cover, wanted)
+    expect_image(&rt, alloc, &image, "", cover, wanted)
 }

@@ -70,8 +70,15 @@ pub fn expect(
     let outcome = aftersight_plain(alloc, words, files, &mut out, &mut err);
     assert_eq!(rt; outcome.status, wanted.status, "the status of {words:?}");
     assert!(rt; out.bytes() == wanted.text, "the text of {words:?}");
-    assert!(rt; err.bytes() == wanted.line.as_bytes(), "the line of {words:?}");
-    assert_eq!(rt; outcome.closing.is_some(), wanted.line.is_empty(), "the closing of {words:?}");
+    assert!(rt;
+        err.bytes() == wanted.line.as_bytes(),
+        "the line of {words:?}"
+    );
+    assert_eq!(rt;
+        outcome.closing.is_some(),
+        wanted.line.is_empty(),
+        "the closing of {words:?}"
+    );
     Ok(outcome)
 }
 
@@ -86,6 +93,10 @@ pub fn expect_records(rt: &impl Abort, outcome: &Outcome, records: u64, title: &
 fn expect_taken(rt: &impl Abort, closing: &Closing, records: u64, title: &str) {
     assert_eq!(rt; closing.appended(), records, "{title}");
     for replica in 0..closing.replicas() {
-        assert_eq!(rt; closing.taken(replica), records, "{title}: replica {replica}");
+        assert_eq!(rt;
+            closing.taken(replica),
+            records,
+            "{title}: replica {replica}"
+        );
     }
 }

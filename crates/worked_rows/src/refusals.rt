@@ -13,33 +13,39 @@ fn refused(status: u8, line: &str) -> Wanted<'_> {
     }
 }
 
+// Words, and the status and the line that they come to.
+const WORDS: [(&str, u8, &str); 20] = [
+    ("", 2, "words: missing\n"),
+    ("run a", 2, "words: missing\n"),
+    ("frob", 2, "words: word 1\n"),
+    ("--help run", 2, "words: word 1\n"),
+    ("run a b --log 17", 2, "words: word 5\n"),
+    ("run a b --steps 05", 2, "words: word 5\n"),
+    ("run a b --log=32", 2, "words: word 4\n"),
+    ("run a b --steps 5 --steps 6", 2, "words: word 6\n"),
+    ("run a b --require heap --with taint", 2, "words: word 5\n"),
+    (
+        "run a b --with heap,taint --turns a0r",
+        2,
+        "words: word 7\n",
+    ),
+    ("run a b --with", 2, "words: missing\n"),
+    ("run a b c", 2, "words: word 4\n"),
+    ("run a -b", 2, "words: word 3\n"),
+    ("run a b --mode best --require heap", 2, "words: word 7\n"),
+    ("run a b --threads 1 --turns a0r", 2, "words: word 7\n"),
+    ("load 4294967296 1", 2, "words: word 2\n"),
+    ("record a b", 2, "words: missing\n"),
+    // words that are a job, of a kind that is not built
+    ("record a b c", 10, "not built\n"),
+    ("show a", 10, "not built\n"),
+    ("run a b --threads 1", 10, "not built\n"),
+];
+
 #[test]
 fn wrong_words_are_named(rt: HostRuntime) -> Result<(), Fail> {
     let alloc = rt.alloc();
-    let rows: [(&str, u8, &str); 20] = [
-        ("", 2, "words: missing\n"),
-        ("run a", 2, "words: missing\n"),
-        ("frob", 2, "words: word 1\n"),
-        ("--help run", 2, "words: word 1\n"),
-        ("run a b --log 17", 2, "words: word 5\n"),
-        ("run a b --steps 05", 2, "words: word 5\n"),
-        ("run a b --log=32", 2, "words: word 4\n"),
-        ("run a b --steps 5 --steps 6", 2, "words: word 6\n"),
-        ("run a b --require heap --with taint", 2, "words: word 5\n"),
-        ("run a b --with heap,taint --turns a0r", 2, "words: word 7\n"),
-        ("run a b --with", 2, "words: missing\n"),
-        ("run a b c", 2, "words: word 4\n"),
-        ("run a -b", 2, "words: word 3\n"),
-        ("run a b --mode best --require heap", 2, "words: word 7\n"),
-        ("run a b --threads 1 --turns a0r", 2, "words: word 7\n"),
-        ("load 4294967296 1", 2, "words: word 2\n"),
-        ("record a b", 2, "words: missing\n"),
-        // words that are a job, of a kind that is not built
-        ("record a b c", 10, "not built\n"),
-        ("show a", 10, "not built\n"),
-        ("run a b --threads 1", 10, "not built\n"),
-    ];
-    for (words, status, line) in rows {
+    for (words, status, line) in WORDS {
         let mut files = files_of(alloc, None, None, None)?;
         let words = words_of(alloc, words)?;
         expect(&rt, alloc, &mut files, &words, refused(status, line))?;
@@ -87,22 +93,23 @@ fn files_are_refused_in_their_order(rt: HostRuntime) -> Result<(), Fail> {
     Ok(())
 }
 
+// A file of so many line feeds.
+fn long_file(alloc: Global, length: usize) -> Result<Vec<u8>, Fail> {
+    Ok(vec![in alloc; 10u8; length]?)
+}
+
 #[test]
 fn files_that_are_too_long_are_refused(rt: HostRuntime) -> Result<(), Fail> {
     let alloc = rt.alloc();
     let flat = flat(alloc, &guests::HELLO)?;
-    let long = vec![in alloc; 10u8; 33_554_433]?;
-    assert_eq!(rt; long.len(), 33_554_433);
-    let image = &long[..33_554_432];
-    let script = &long[..1_048_577];
-    let disk = &long[..16_777_217];
-    let empty: Option<&[u8]> = Some(&[]);
-    let rows: [(Option<&[u8]>, Option<&[u8]>, Option<&[u8]>, u8, &str); 5] = [
-        (Some(&long), None, empty, 3, "image: too long\n"),
-        (Some(image), empty, empty, 3, "image: segment 0 outside\n"),
-        (Some(&flat), Some(script), None, 4, "script: too long\n"),
-        (Some(&flat), Some(b"?"), Some(disk), 3, "disk: too long\n"),
-        (Some(image), Some(&script[1..]), Some(&disk[1..]), 3, "image: segment 0 outside\n"),
+    let image = long_file(alloc, 33_554_433)?;
+    let script = long_file(alloc, 1_048_577)?;
+    let disk = long_file(alloc, 16_777_217)?;
+    let bad: Option<&[u8]> = Some(b"?");
+    let rows: [(Option<&[u8]>, Option<&[u8]>, Option<&[u8]>, u8, &str); 3] = [
+        (Some(&image), None, bad, 3, "image: too long\n"),
+        (Some(&flat), Some(&script), None, 4, "script: too long\n"),
+        (Some(&flat), bad, Some(&disk), 3, "disk: too long\n"),
     ];
     for (image, script, disk, status, line) in rows {
         expect_files(&rt, alloc, (image, script, disk), refused(status, line))?;
@@ -110,25 +117,43 @@ fn files_that_are_too_long_are_refused(rt: HostRuntime) -> Result<(), Fail> {
     Ok(())
 }
 
+// Scripts, and the lines that they come to.
+const SCRIPTS: [(&str, &str); 5] = [
+    ("at 5 tick 1\nat 4 tick 1\n", "script: line 2 falling\n"),
+    ("at 05 tick 1\n", "script: line 1 number\n"),
+    ("clock 0\n", "script: line 1 number\n"),
+    ("at 5 serial 6\n", "script: line 1 bad\n"),
+    ("at 5 serial 6A\n", "script: line 1 bad\n"),
+];
+
 #[test]
 fn broken_scripts_are_named_by_their_line(rt: HostRuntime) -> Result<(), Fail> {
     let alloc = rt.alloc();
     let image = flat(alloc, &guests::HELLO)?;
-    let mut many = String::new(alloc);
-    for _line in 0..257u32 {
-        many.push_str("sectors 0 0\n")?;
-    }
-    let rows: [(&str, &str); 6] = [
-        ("at 5 tick 1\nat 4 tick 1\n", "script: line 2 falling\n"),
-        ("at 05 tick 1\n", "script: line 1 number\n"),
-        ("clock 0\n", "script: line 1 number\n"),
-        ("at 5 serial 6\n", "script: line 1 bad\n"),
-        ("at 5 serial 6A\n", "script: line 1 bad\n"),
-        (&many, "script: line 257 too many\n"),
-    ];
-    for (script, line) in rows {
+    for (script, line) in SCRIPTS {
         let script: Option<&[u8]> = Some(script.as_bytes());
-        expect_files(&rt, alloc, (Some(&image), script, Some(&[])), refused(4, line))?;
+        expect_files(
+            &rt,
+            alloc,
+            (Some(&image), script, Some(&[])),
+            refused(4, line),
+        )?;
     }
     Ok(())
+}
+
+#[test]
+fn a_script_has_at_most_256_spans(rt: HostRuntime) -> Result<(), Fail> {
+    let alloc = rt.alloc();
+    let image = flat(alloc, &guests::HELLO)?;
+    let mut script = String::new(alloc);
+    for _line in 0..257u32 {
+        script.push_str("sectors 0 0\n")?;
+    }
+    let given: (Option<&[u8]>, Option<&[u8]>, Option<&[u8]>) = (
+        Some(&image),
+        Some(script.as_bytes()),
+        Some(&[]),
+    );
+    expect_files(&rt, alloc, given, refused(4, "script: line 257 too many\n"))
 }

@@ -24,8 +24,14 @@ fn a_failed_put_ends_the_output(rt: HostRuntime) -> Result<(), Fail> {
         let outcome = aftersight_plain(alloc, &words, &mut files, &mut out, &mut err);
         let line = "output failed\n";
         assert_eq!(rt; outcome.status, 6, "put {put} fails after {after}");
-        assert!(rt; out.bytes() == text.as_bytes(), "put {put} fails after {after}");
-        assert!(rt; err.bytes() == line.as_bytes(), "put {put} fails after {after}");
+        assert!(rt;
+            out.bytes() == text.as_bytes(),
+            "put {put} fails after {after}"
+        );
+        assert!(rt;
+            err.bytes() == line.as_bytes(),
+            "put {put} fails after {after}"
+        );
         expect_records(&rt, &outcome, records, text);
     }
     Ok(())
