@@ -8,7 +8,7 @@ mod headed;
 #[cfg(test)]
 mod program;
 #[cfg(test)]
-mod refusals;
+mod refused;
 #[cfg(test)]
 mod runs;
 #[cfg(test)]
