@@ -8,9 +8,9 @@ program = crates/aftersight/out/aftersight
 all:
 	cd crates/aftersight && rt run -- run data/first.bin data/first.txt --with cover
 
-# the first run, built without the proofs
+# a firmware whose input overwrites a place to return to, run by the program built without its proofs; findings give status 1
 demo:
-	cd crates/aftersight && rt try -- run data/first.bin data/first.txt --with cover
+	cd crates/aftersight && rt try -- run $(CURDIR)/guest/built/door.elf $(CURDIR)/guest/examples/door.txt || test $$? -eq 1
 
 # every proof, planted mistake and test
 test:
