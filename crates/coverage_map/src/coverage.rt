@@ -8,7 +8,7 @@ ghost use Rattle.analysis_model.specs.Complaints.{findings};
 ghost use Rattle.analysis_model.specs.Cover.{executed_pcs, executed_ranges};
 ghost use Rattle.analysis_model.specs.Findings.{first_step, tally, kept};
 ghost use Rattle.analysis_model.specs.Made.{make_of};
-ghost use Rattle.coverage_map.specs.Coverage.{Covered, Stands, make_now, guest_now, pcs_now, ranges_now, with_mark, with_outside, after};
+ghost use Rattle.coverage_map.specs.Coverage.{Covered, Stands, make_now, guest_now, pcs_now, ranges_now, with_found, with_mark, with_outside, after};
 ghost use Rattle.coverage_map.specs.Executed.{AreExecuted};
 
 use crate::area::{Area, code_of, is_code};
@@ -130,11 +130,27 @@ impl Coverage {
         requires { Fits self.old.ram_kib event.now }
         ensures { self.new ≡ after self.old event.now }
     {
-        match *event {
-            Event::Exec { step, pc, .. } => {
-                self.mark(pc);
-                self.look_at(step, pc);
+        match event {
+            Event::Exec { pc, .. } => {
+                self.mark(*pc);
+                if !is_code(&self.code, *pc) {
+                    self.find(event);
+                }
             }
+            Event::Trap { .. } => self.find(event),
+            Event::Dma { .. } | Event::Irq { .. } => {}
+        }
+    }
+
+    // Notes an event whose pc is in no code. It stands apart since it is rare, and so that an event that was just written
+    // is read field by field.
+    #[cold]
+    #[inline(never)]
+    fn find(&mut self, event: &Event)
+        ensures { self.new ≡ with_found self.old event.now }
+    {
+        match *event {
+            Event::Exec { step, pc, .. } => self.look_at(step, pc),
             Event::Trap { step, pc, .. } => self.look_at(step, pc),
             Event::Dma { .. } | Event::Irq { .. } => {}
         }
