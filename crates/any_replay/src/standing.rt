@@ -38,28 +38,8 @@ pub fn wait<H: Hart>(standing: &Standing<H>) -> Option<Why>
     load_fault_of(standing.hart.next_need(standing.lines), standing.load)
 }
 
-// Any step of a hart, as `do_step` does it. It stands apart since it is rare.
-#[cold]
-#[inline(never)]
-fn do_any_step<H: Hart>(hart: &mut H, lines: u8, load: Option<Supplied>, event: &mut Event) -> bool
-    requires { H.done hart.old < MOST_STEPS }
-    ensures answer { result ≡ not (is_some (load_fault (H.machine.needs hart.old lines) load)) }
-    ensures stays { result ≡ false → hart.new ≡ hart.old }
-    ensures does { IsTrue result → H.machine.step hart.old lines load ≡ (event.new, hart.new) }
-    ensures size { H.ram_size hart.new ≡ H.ram_size hart.old }
-    ensures fits { (ram_kib : ℕ) → IsTrue result → H.ram_size hart.old ≡ 1024 * ram_kib
-        → Fits ram_kib event.new }
-{
-    if load_fault_of(hart.next_need(lines), load).is_some() {
-        return false;
-    }
-    *event = hart.step(lines, load);
-    true
-}
-
 // The step to come of a hart, where it has the value that it needs and no other. It leaves what the step shows in
 // `event`.
-#[inline(always)]
 fn do_step<H: Hart>(hart: &mut H, lines: u8, load: Option<Supplied>, event: &mut Event) -> bool
     requires { H.done hart.old < MOST_STEPS }
     ensures answer { result ≡ not (is_some (load_fault (H.machine.needs hart.old lines) load)) }
@@ -72,11 +52,14 @@ fn do_step<H: Hart>(hart: &mut H, lines: u8, load: Option<Supplied>, event: &mut
     if load.is_none() && hart.try_step(lines, event) {
         return true;
     }
-    do_any_step(hart, lines, load, event)
+    if load_fault_of(hart.next_need(lines), load).is_some() {
+        return false;
+    }
+    *event = hart.step(lines, load);
+    true
 }
 
 /// Does the step to come, where it has the value that it needs and no other, and leaves what it shows in `event`.
-#[inline(always)]
 pub fn step<H: Hart>(standing: &mut Standing<H>, event: &mut Event) -> bool
     requires { H.done standing.old.hart < MOST_STEPS }
     ensures answer { result

@@ -12,4 +12,4 @@ returns-clause-fits g c =
       | else-is_none-via-else-is_none w ↦ ap g.H.Hart.ram_size w.hart-is
     ]
     in
-    c.do_any_step.ensures.fits ram_kib done (same ∙ is)
+    c.step.ensures.fits ram_kib (same ∙ is)
