@@ -194,6 +194,30 @@ fn what_is_written_does_not_depend_on_the_turns(rt: HostRuntime) -> Result<(), F
 }
 
 #[test]
+fn five_replicas_take_turns_in_any_order(rt: HostRuntime) -> Result<(), Fail> {
+    for turns in [
+        "a01234r",
+        "aaaaaaaaaaaaaaaaaaaa43210r",
+        "r0a1234",
+        "a0a0a0a1r234",
+    ] {
+        let options = format!(in rt.alloc(); "--log 16 --turns {turns}")?;
+        let run = Run {
+            title: "a line sent back through a block, by turns",
+            image: &guests::ECHO,
+            script: "at 20 line hi\n",
+            disk: &[],
+            options: &options,
+            status: 0,
+            text: texts::ECHO,
+            records: 15,
+        };
+        expect_run(&rt, rt.alloc(), run)?;
+    }
+    Ok(())
+}
+
+#[test]
 fn the_recorder_waits_for_room_in_the_gate(rt: HostRuntime) -> Result<(), Fail> {
     let alloc = rt.alloc();
     let mut options = String::from_str(alloc, "--with cover --log 8192 --turns ")?;

@@ -7,17 +7,19 @@ use std::test::Fail;
 #[test]
 fn a_failed_put_ends_the_output(rt: HostRuntime) -> Result<(), Fail> {
     let alloc = rt.alloc();
-    // The put that fails, after how many bytes, what was written, and how many records were appended.
+    // The turns, the put that fails, after how many bytes, what was written, and how many records were appended.
     let rows = [
-        (1, 0, "", 1u64),
-        (2, 0, "H", 2),
-        (2, 1, "H\n", 2),
-        (3, 5, "H\n== af", 2),
-        (9, 2, texts::HELLO_CUT, 2),
+        ("a0r", 1, 0, "", 1u64),
+        ("aa0r", 1, 0, "", 2),
+        ("a0r", 2, 0, "H", 2),
+        ("a0r", 2, 1, "H\n", 2),
+        ("a0r", 3, 5, "H\n== af", 2),
+        ("a0r", 9, 2, texts::HELLO_CUT, 2),
     ];
-    let words = words_of(alloc, "run guest.bin guest.txt --with cover --turns a0r")?;
     let image = flat(alloc, &guests::HELLO)?;
-    for (put, after, text, records) in rows {
+    for (turns, put, after, text, records) in rows {
+        let line = format!(in alloc; "run guest.bin guest.txt --with cover --turns {turns}")?;
+        let words = words_of(alloc, &line)?;
         let mut files = files_of(alloc, Some(&image), Some(&[]), None)?;
         let mut out = sink_of(alloc, vec![in alloc; (put, after)]?)?;
         let mut err = sink_of(alloc, Vec::new(alloc))?;
