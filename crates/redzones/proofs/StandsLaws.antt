@@ -1,9 +1,8 @@
 -- What redzones stand for, with one event more.
 use Rattle.std.proofs.Common.{◌≡◌, ℕ, ◌+◌, ◌*◌, ◌^◌, ◌<◌, ◌≤◌, true, cond, List, [], ◌∷◌, ◌++◌, length, reverse, unwrap_or, sym, ap, ◌∙◌, arith}
 use Rattle.std.specs.Option.{option_map}
-use Rattle.std.proofs.lemmas.Bool.Decides.{nat_tests}
 use Rattle.memory_map.specs.declared.TheConstants.{MOST_RAM_KIB, RAM_START}
-use Rattle.memory_map.specs.Ram.{InRam, in_ram}
+use Rattle.memory_map.specs.Ram.{in_ram}
 use Rattle.list_laws.proofs.LeastLaws.{is_between-yes}
 use Rattle.list_laws.proofs.ReverseLaws.{reverse-last}
 use Rattle.run_events.specs.declared.event.Event.{Event}
@@ -12,7 +11,6 @@ use Rattle.run_events.specs.Announcement.{announced}
 use Rattle.run_events.specs.Event.{Fits}
 use Rattle.analysis_model.specs.Complaints.{complaint, findings}
 use Rattle.analysis_model.specs.Heap.{Plain, use_made, use_after}
-use Rattle.analysis_model.specs.InRam.{IsByteOf}
 use Rattle.analysis_model.specs.Look.{finding_of, found_at}
 use Rattle.analysis_model.proofs.HeapLaws.{heap_by-same}
 use Rattle.analysis_model.proofs.LookLaws.{told_at-more}

@@ -1,5 +1,5 @@
 -- What a shadow keeps of each byte of RAM, and what a paint makes of it.
-use Rattle.std.specs.Prelude.{◌≡◌, ℕ, ◌+◌, ◌-◌, ◌<◌, ◌≤◌, ◌≢◌, Bool, true, ◌&&◌, nat_le, nat_lt, List, [], ◌∷◌, length, slice_index, if◌then◌else◌}
+use Rattle.std.specs.Prelude.{◌≡◌, ℕ, ◌+◌, ◌-◌, ◌<◌, ◌≤◌, ◌≢◌, Bool, true, nat_le, List, [], ◌∷◌, length, slice_index, if◌then◌else◌}
 use Rattle.std.specs.Int.Bits.{bit_and}
 use Rattle.list_laws.specs.Least.{is_between}
 use Rattle.memory_map.specs.declared.TheConstants.{RAM_START}

@@ -1,5 +1,5 @@
 -- Marks, as they are given and kept.
-use Rattle.std.proofs.Common.{◌≡◌, ◌≢◌, ◌⊎◌, inl, inr, ℕ, zero, suc, ◌+◌, ◌-◌, ◌*◌, ◌^◌, ◌==◌, ◌<◌, ◌≤◌, ◌&&◌, not, nat_le, nat_lt, min, max, Bool, true, false, cond, List, [], ◌∷◌, length, get_or, set, replicate, unwrap_or, Option, None, Some, refl, sym, ap, ◌∙◌, arith}
+use Rattle.std.proofs.Common.{◌≡◌, ◌≢◌, ℕ, zero, suc, ◌+◌, ◌-◌, ◌*◌, ◌^◌, ◌==◌, ◌<◌, ◌≤◌, ◌&&◌, not, min, max, Bool, true, false, cond, List, length, get_or, set, replicate, unwrap_or, Option, None, Some, refl, sym, ap, ◌∙◌, arith}
 use Rattle.std.specs.Prelude.{IfSome, IfNone}
 use Rattle.std.specs.Int.Bits.{bit_and, bit_or}
 use Rattle.std.specs.Option.{option_map}
@@ -14,7 +14,7 @@ use Rattle.analysis_model.specs.InRam.{least_in_ram}
 use Rattle.analysis_model.specs.Taint.{Place, Register, Scratch, Byte, IsPlace, Sources, register, is_general, is_marked, bytes_from, union_of, mark_of, mark_or, sources_in, writes_bytes}
 use Rattle.analysis_model.specs.Taint as model
 use Rattle.finding_tally.specs.Tallied.{Tallied}
-use Rattle.shadow_state.specs.Shade.{Shade, shade, has_byte, covers, painted, IsLeast, NoneBetween}
+use Rattle.shadow_state.specs.Shade.{Shade, shade, has_byte, painted, IsLeast, NoneBetween}
 use Rattle.shadow_state.proofs.LeastLaws.{Tests, searched_in_ram}
 use Rattle.shadow_state.proofs.PaintLaws.{painted-at, painted-same, length-painted_from}
 use Rattle.shadow_state.proofs.SizeLaws.{has_byte_of}

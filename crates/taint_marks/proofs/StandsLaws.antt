@@ -1,5 +1,5 @@
 -- What marks stand for, at first and with one event more.
-use Rattle.std.proofs.Common.{◌≡◌, ℕ, ◌*◌, true, List, [], ◌∷◌, ◌++◌, length, replicate, reverse, Option, refl, sym, ap, ◌∙◌}
+use Rattle.std.proofs.Common.{◌≡◌, ℕ, ◌*◌, List, [], ◌∷◌, ◌++◌, length, replicate, reverse, refl, sym, ap, ◌∙◌}
 use Rattle.std.specs.Option.{option_map}
 use Rattle.list_laws.proofs.ReverseLaws.{reverse-last}
 use Rattle.run_events.specs.declared.event.Event.{Event}
@@ -7,12 +7,12 @@ use Rattle.run_events.specs.declared.finding.Kind.TheVariants as kind
 use Rattle.run_events.specs.Event.{Fits}
 use Rattle.analysis_model.specs.Complaints.{complaint, findings}
 use Rattle.analysis_model.specs.Look.{finding_of, found_at}
-use Rattle.analysis_model.specs.Taint.{Place, Register, Scratch, Byte, IsPlace, writes_of, mark_after, taint_by}
+use Rattle.analysis_model.specs.Taint.{Place, Register, Scratch, Byte, IsPlace, writes_of, mark_after}
 use Rattle.analysis_model.proofs.LookLaws.{told_at-more}
 use Rattle.analysis_model.proofs.TaintLaws.{written-same, taint_by-same}
 use Rattle.finding_tally.specs.Tallied.{Tallied, Tallies}
 use Rattle.finding_tally.proofs.TalliedLaws.{tallied_with-more}
-use Rattle.shadow_state.specs.Shade.{Shade, has_byte, IsPainted}
+use Rattle.shadow_state.specs.Shade.{Shade, IsPainted}
 use Rattle.shadow_state.proofs.SizeLaws.{has_byte_of}
 use Rattle.taint_marks.specs.Marked.{marked_by}
 use Rattle.taint_marks.specs.Marks.{Marks, Stands, guest_now, mark_now, found_now, after}

@@ -1,5 +1,5 @@
 -- The marks that an event gives.
-use Rattle.std.specs.Prelude.{ℕ, false, true, Option, None, Some}
+use Rattle.std.specs.Prelude.{ℕ, false, Option, None, Some}
 use Rattle.std.specs.Option.{option_map}
 use Rattle.run_events.specs.declared.access.Access.{Access}
 use Rattle.run_events.specs.declared.access.Access.TheVariants as access

@@ -133,21 +133,15 @@ impl Taint {
         ensures { self.new ≡ after self.old event.now }
     {
         match event {
-            Event::Dma { address, mark, .. } => self.put_bytes(*address, 4, *mark),
-            Event::Irq { .. } | Event::Trap { .. } => {}
             Event::Exec {
                 word,
                 access,
                 told,
                 ..
-            } => {
-                let announced = Announcement::of(*word, *told);
-                if announced.is_none() && !self.jumps_marked(decode(*word)) {
-                    self.give(*word, access);
-                } else {
-                    self.take_in_whole(event);
-                }
+            } if Announcement::of(*word, *told).is_none() && !self.jumps_marked(decode(*word)) => {
+                self.give(*word, access)
             }
+            _ => self.take_in_whole(event),
         }
     }
 

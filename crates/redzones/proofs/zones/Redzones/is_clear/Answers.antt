@@ -1,4 +1,4 @@
-use Rattle.std.proofs.Common.{◌≡◌, ◌≤◌, ℕ, true, None, subst}
+use Rattle.std.proofs.Common.{◌≡◌, None, subst}
 use Rattle.list_laws.specs.Least.{least_from}
 use Rattle.analysis_model.specs.Heap.{is_forbidden}
 use Rattle.redzones.specs.Zones.{Zones, use_in}
