@@ -44,11 +44,7 @@ open_part_none locks context guard from size none = by_case (is_held_by (holder_
     by_case true held = open_part_held locks context guard from size held
     by_case false free = none ∙ open_part_free locks context guard from size free
 
--- where nothing is guarded, or nothing touched, there is nothing to complain of
-pub none_guarded : (locks : List Lock) (context from size : ℕ) (guards : List Guard) → length guards ≡ 0 → option_map bad_access (least_from (is_open locks context guards) from size) ≡ None
-none_guarded locks context from size [] none = ap (option_map bad_access) (least_none (is_open locks context []) from size (λ n low high. refl))
-none_guarded locks context from size (guard ∷ guards) none = absurd (omega arith)
-
+-- where nothing is touched, there is nothing to complain of
 pub none_touched : (p : ℕ → Bool) (from : ℕ) → option_map bad_access (least_from p from 0) ≡ None
 unfolding least_from
 none_touched p from = refl

@@ -1,3 +1,4 @@
 pub mod Entries
 pub mod Lesser
+pub mod Shaded
 pub mod State

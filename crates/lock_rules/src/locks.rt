@@ -6,6 +6,10 @@ ghost use Rattle.std.specs.List.{position_from};
 ghost use Rattle.run_events.specs.declared.announcement.Announcement.TheVariants as announce;
 ghost use Rattle.run_events.specs.declared.event.Event.{Event};
 ghost use Rattle.run_events.specs.declared.finding.Kind.TheVariants as kind;
+ghost use Rattle.list_laws.specs.Least.{least_from};
+ghost use Rattle.memory_map.specs.Ram.{InRam};
+ghost use Rattle.run_events.specs.Event.{AccessFits, Fits};
+ghost use Rattle.lock_rules.specs.Entries.{is_open};
 ghost use Rattle.analysis_model.specs.Complaints.{findings};
 ghost use Rattle.analysis_model.specs.Findings.{first_step, tally, kept};
 ghost use Rattle.analysis_model.specs.Locks.{locks_kept, bad_acquire, bad_release};
@@ -19,6 +23,7 @@ use elf_image::Image;
 use finding_tally::Tally;
 use memory_map::NoMemory;
 use run_events::{Access, Announcement, Event, Finding, FindingKind, Watcher};
+use shadow_state::Shadow;
 use std::alloc::Global;
 use std::marker::Model;
 
@@ -29,23 +34,29 @@ pub struct Locks {
     context: u32,
     locks: Vec<Lock>,
     guards: Vec<Guard>,
+    // each byte of RAM that a range guards has the value GUARDED
+    guarded: Shadow,
     found: Tally,
 }
 
 // So many locks count, and so many ranges.
 const KEPT: usize = 256;
 
+const GUARDED: u8 = 1;
+
 impl Model for Locks {
-    ghost use Rattle.std.specs.Prelude.{◌≡◌};
+    ghost use Rattle.std.specs.Prelude.{◌≡◌, ◌*◌, length};
     ghost use Rattle.std.specs.Vec.{vec_capacity};
     ghost use Rattle.analysis_model.specs.Look.{finding_at};
+    ghost use Rattle.lock_rules.specs.Shaded.{AreShaded};
     ghost use Rattle.lock_rules.specs.State.{LockState};
 
     ghost Value = { LockState };
 
     ghost view = { λ l. record { ram_kib = l.ram_kib; context = l.context; locks = l.locks.items; guards = l.guards.items; found = l.found } };
 
-    ghost invariant = { λ l. (vec_capacity l.locks ≡ 256) × (vec_capacity l.guards ≡ 256) };
+    ghost invariant = { λ l. (vec_capacity l.locks ≡ 256) × (vec_capacity l.guards ≡ 256)
+        × (length l.guarded.bytes ≡ 1024 * l.ram_kib) × AreShaded l.guarded l.guards.items };
 }
 
 impl Watcher for Locks {
@@ -76,6 +87,7 @@ impl Locks {
             context: 0,
             locks: Vec::with_capacity(alloc, KEPT)?,
             guards: Vec::with_capacity(alloc, KEPT)?,
+            guarded: Shadow::new(alloc, ram_kib)?,
             found: Tally::new(),
         })
     }
@@ -109,6 +121,7 @@ impl Locks {
 
     #[inline(always)]
     fn take_in(&mut self, event: &Event)
+        requires { Fits self.old.ram_kib event.now }
         ensures { self.new ≡ after self.old event.now }
     {
         if !self.is_calm(event) {
@@ -119,6 +132,7 @@ impl Locks {
     // Whether the event announces nothing and touches nothing that could be guarded, as nearly each.
     #[inline(always)]
     fn is_calm(&self, event: &Event) -> bool
+        requires { Fits self.now.ram_kib event.now }
         ensures { result ≡ true → after self.now event.now ≡ self.now }
     {
         match event {
@@ -132,17 +146,36 @@ impl Locks {
         }
     }
 
+    // Whether the access touches no guarded byte: the quick test that most accesses pass. Those to devices do not.
     #[tactic(auto, using(crate::proofs::OpenLaws::none_touched))]
     #[inline(always)]
     fn allows(&self, access: &Access) -> bool
+        requires { AccessFits self.now.ram_kib access.now }
         ensures { result ≡ true → opened self.now access.now ≡ None }
     {
-        match access {
+        match *access {
             Access::Quiet => true,
-            Access::Load { .. } | Access::Store { .. } | Access::Swap { .. } => self
-                .guards
-                .is_empty(),
+            Access::Load {
+                address,
+                device,
+                ..
+            }
+            | Access::Store {
+                address,
+                device,
+                ..
+            } => !device && self.is_unguarded(address),
+            Access::Swap { address, .. } => self.is_unguarded(address),
         }
+    }
+
+    // Whether no access to RAM of at most four bytes from an address on touches a guarded one.
+    #[inline(always)]
+    fn is_unguarded(&self, address: u32) -> bool
+        ensures { result ≡ true → (width : ℕ) → width ≤ 4 → InRam (1024 * self.now.ram_kib) address width →
+            least_from (is_open self.now.locks self.now.context self.now.guards) address width ≡ None }
+    {
+        self.guarded.is_clear(address, GUARDED)
     }
 
     #[inline(never)]
@@ -265,9 +298,12 @@ impl Locks {
             ≡ record self.old { guards = guards_with self.old.guards start size (Some place) } }
     {
         if self.guards.len() < KEPT {
+            let from = u64::from(start);
+            let to = from + u64::from(size);
+            self.guarded.paint(from, to, GUARDED);
             self.guards.push_reserved(Guard {
                 from: start,
-                to: u64::from(start) + u64::from(size),
+                to,
                 place,
             });
         }
