@@ -2,7 +2,7 @@
 use Rattle.std.proofs.Common.{◌≡◌, ℕ, zero, suc, ◌-◌, ◌<◌, ◌≤◌, true, false, cond, List, [], ◌∷◌, refl, ap, ◌∙◌, arith}
 use Rattle.run_events.specs.declared.event.Event.{Event}
 use Rattle.any_machine.specs.Machine.{Machine}
-use Rattle.any_machine.specs.Held.{Held, held_event, held_next, may_step, run_held, run_shown}
+use Rattle.any_machine.specs.Held.{Held, RunsTo, held_event, held_next, may_step, run_held, run_shown}
 
 module _ {S : Type 0} (m : Machine S) where
   -- at most so many steps leave this, and show this
@@ -23,24 +23,19 @@ module _ {S : Type 0} (m : Machine S) where
   unfolding run_held run_shown
   one_left left h may = record { held = ap (λ b. cond b (run_held m left (held_next m h)) h) may; shown = ap (λ b. cond b (held_event m h ∷ run_shown m left (held_next m h)) []) may }
 
-  -- a run up to a number of steps, and what it shows
-  pub record RunsTo (n : ℕ) (h h' : Held S) (events : List Event) : Type 0 where
-    pub held : run_held m (n - h.step) h ≡ h'
-    pub shown : run_shown m (n - h.step) h ≡ events
-
-  to : (n left : ℕ) (h h' : Held S) (events : List Event) → n - h.step ≡ left → RunsLeft left h h' events → RunsTo n h h' events
+  to : (n left : ℕ) (h h' : Held S) (events : List Event) → n - h.step ≡ left → RunsLeft left h h' events → RunsTo m n h h' events
   to n left h h' events is runs = record { held = ap (λ k. run_held m k h) is ∙ runs.held; shown = ap (λ k. run_shown m k h) is ∙ runs.shown }
 
   -- all steps are done
-  pub runs_done : (n : ℕ) (h : Held S) → n ≤ h.step → RunsTo n h h []
+  pub runs_done : (n : ℕ) (h : Held S) → n ≤ h.step → RunsTo m n h h []
   runs_done n h le = to n 0 h h [] (omega (arith, le)) (none_left h)
 
   -- the step to come cannot be done
-  pub runs_stay : (n : ℕ) (h : Held S) → may_step m h ≡ false → RunsTo n h h []
+  pub runs_stay : (n : ℕ) (h : Held S) → may_step m h ≡ false → RunsTo m n h h []
   runs_stay n h may = to n (n - h.step) h h [] refl (stays_left (n - h.step) h may)
 
   -- it is done, and then the rest
-  pub runs_on : (n : ℕ) (h h' : Held S) (events : List Event) → h.step < n → may_step m h ≡ true → RunsTo n (held_next m h) h' events → RunsTo n h h' (held_event m h ∷ events)
+  pub runs_on : (n : ℕ) (h h' : Held S) (events : List Event) → h.step < n → may_step m h ≡ true → RunsTo m n (held_next m h) h' events → RunsTo m n h h' (held_event m h ∷ events)
   runs_on n h h' events lt may rest =
       let left : n - h.step ≡ suc (n - suc h.step) = omega (arith, lt) in
       let first = one_left (n - suc h.step) h may in

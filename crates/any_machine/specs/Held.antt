@@ -51,6 +51,11 @@ module _ {S : Type 0} (m : Machine S) where
   run_shown zero h = []
   run_shown (suc left) h = if may_step h then held_event h ∷ run_shown left (held_next h) else []
 
+  -- a run up to a number of steps, and what it shows
+  pub record RunsTo (number : ℕ) (first last : Held S) (events : List Event) : Type 0 where
+    pub held : run_held (number - first.step) first ≡ last
+    pub shown : run_shown (number - first.step) first ≡ events
+
   -- what is held once a record is taken, and what taking it shows
   abbrev pub held_with : Record → Held S → Held S
   held_with (Lines n bits) h = record h { lines = bits }

@@ -3,7 +3,7 @@ ghost use Rattle.memory_map.specs.declared.TheConstants.{MOST_STEPS};
 ghost use Rattle.std.specs.Prelude.{◌≡◌, ◌*◌, ◌<◌, ℕ, false, None, IsTrue, is_some};
 ghost use Rattle.run_events.specs.Event.{Fits};
 ghost use Rattle.run_events.specs.declared.supply.Need.TheVariants.{Nothing};
-ghost use Rattle.any_machine.specs.Machine.{CountsSteps, Machine, is_load};
+ghost use Rattle.any_machine.specs.Machine.{CountsSteps, Machine, is_load, power_status};
 
 use run_events::{Event, Need, Supplied};
 
@@ -39,13 +39,14 @@ pub trait Hart {
         ensures size { ram_size self.new ≡ ram_size self.old }
         ensures fits { (ram_kib : ℕ) → ram_size self.old ≡ 1024 * ram_kib → Fits ram_kib result };
 
-    /// Does the next step where it is one that the hart does fast, which loads no device register, and leaves what it
-    /// shows in `event`. Where it answers false the hart is as before, and `step` does the step.
+    /// Does the next step where it is one that the hart does fast, which loads no device register and stores no status at
+    /// the power register, and leaves what it shows in `event`. Where it answers false the hart is as before, and `step` does the step.
     fn try_step(&mut self, lines: u8, event: &mut Event) -> bool
         requires room { done self.old < MOST_STEPS }
         ensures same { result ≡ false → self.new ≡ self.old }
         ensures plain { IsTrue result → machine.needs self.old lines ≡ Nothing }
         ensures step { IsTrue result → machine.step self.old lines None ≡ (event.new, self.new) }
+        ensures runs { IsTrue result → power_status event.new ≡ None }
         ensures size { ram_size self.new ≡ ram_size self.old }
         ensures fits { (ram_kib : ℕ)
             → IsTrue result

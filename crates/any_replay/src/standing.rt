@@ -49,9 +49,6 @@ fn do_step<H: Hart>(hart: &mut H, lines: u8, load: Option<Supplied>, event: &mut
     ensures fits { (ram_kib : ℕ) → IsTrue result → H.ram_size hart.old ≡ 1024 * ram_kib
         → Fits ram_kib event.new }
 {
-    if load.is_none() && hart.try_step(lines, event) {
-        return true;
-    }
     if load_fault_of(hart.next_need(lines), load).is_some() {
         return false;
     }

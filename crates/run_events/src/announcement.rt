@@ -27,6 +27,7 @@ pub enum Announcement {
 impl Announcement {
     /// What the instruction `word` announces; none where it is no `slti x0, x0, k` with k from 1 to 7.
     #[tactic(auto, using(crate::proofs::AnnouncementLaws::announced_by_none))]
+    #[inline(always)]
     pub fn of(word: u32, told: Told) -> Option<Announcement>
         ensures { result ≡ announced_by word told }
     {

@@ -1,5 +1,5 @@
 //! The trait of what looks at events.
-ghost use Rattle.std.specs.Prelude.{◌≡◌, ℕ, List, [], ◌∷◌, ◌++◌};
+ghost use Rattle.std.specs.Prelude.{◌≡◌, ℕ, false, IsTrue, List, [], ◌∷◌, ◌++◌};
 ghost use Rattle.run_events.specs.declared.event.Event.{Event};
 ghost use Rattle.run_events.specs.Event.{Fits};
 
@@ -22,4 +22,20 @@ pub trait Watcher {
         ensures seen { (h : List Event) → has_seen self.old h → has_seen self.new (h ++ event.now ∷ []) }
         ensures size { ram_kib self.new ≡ ram_kib self.old }
         ensures made { make self.new ≡ make self.old };
+
+    /// Looks at the next event where that takes no more than a few compares. Where it answers false it is as before, and
+    /// `see` looks at the event.
+    #[inline(always)]
+    fn try_see(&mut self, event: &Event) -> bool
+        requires { Fits (ram_kib self.old) event.now }
+        ensures seen { (h : List Event)
+            → IsTrue result
+            → has_seen self.old h
+            → has_seen self.new (h ++ event.now ∷ []) }
+        ensures same { result ≡ false → self.new ≡ self.old }
+        ensures size { ram_kib self.new ≡ ram_kib self.old }
+        ensures made { make self.new ≡ make self.old }
+    {
+        false
+    }
 }

@@ -1,0 +1,16 @@
+-- A run of a replay that goes on: what it has done so far, and what is still to come.
+use Rattle.std.specs.Prelude.{ℕ, List, ◌++◌, None}
+use Rattle.run_events.specs.declared.event.Event.{Event}
+use Rattle.any_machine.specs.Machine.{Machine}
+use Rattle.any_machine.specs.Held.{Held, RunsTo}
+
+-- A run that began at one place stands at another one, where this is seen: the events between, what is left of the run,
+-- and what is seen.
+pub record RunSoFar {S : Type 0} (m : Machine S) (number : ℕ) (first now : Held S) (Seen SeenNow : List Event → Type 0) : Type 0 where
+  pub events : List Event
+  pub goes : (last : Held S) (rest : List Event) → RunsTo m number now last rest → RunsTo m number first last (events ++ rest)
+  pub seen : (h : List Event) → Seen h → SeenNow (h ++ events)
+
+-- a hart whose step to come is fed nothing but these lines, and whose last step was no power store
+abbrev pub unfed : {H : Type 0} → (H → ℕ) → ℕ → H → Held H
+unfed done lines hart = record { state = hart; step = done hart; lines = lines; load = None; power = None }
