@@ -1,6 +1,6 @@
 //! The analysis of calls and returns.
 ghost use Rattle.memory_map.specs.declared.TheConstants.{LEAST_RAM_KIB, MOST_RAM_KIB};
-ghost use Rattle.std.specs.Prelude.{◌≡◌, ℕ, ◌+◌, ◌*◌, ◌^◌, ◌<◌, ◌≤◌, List, [], ◌∷◌, ◌++◌, length, Option, IfOk};
+ghost use Rattle.std.specs.Prelude.{◌≡◌, ℕ, ◌+◌, ◌*◌, ◌^◌, ◌<◌, ◌≤◌, true, List, [], ◌∷◌, ◌++◌, length, Option, IfOk};
 ghost use Rattle.run_events.specs.declared.event.Event.{Event};
 ghost use Rattle.run_events.specs.declared.finding.Kind.TheVariants as kind;
 ghost use Rattle.run_events.specs.Announcement.{announced_by};
@@ -49,6 +49,11 @@ impl Watcher for Calls {
     #[inline(never)]
     fn see(&mut self, event: &Event) {
         self.take_in(event);
+    }
+
+    #[inline(always)]
+    fn try_see(&mut self, event: &Event) -> bool {
+        self.is_calm(event)
     }
 }
 
@@ -104,6 +109,19 @@ impl Calls {
         ensures seen { (h : List Event) → Stands self.now h → result ≡ unmatched_in h }
     {
         self.unmatched
+    }
+
+    // Whether the event neither calls nor returns nor enters a context, as most.
+    #[inline(always)]
+    fn is_calm(&self, event: &Event) -> bool
+        ensures { result ≡ true → after self.now event.now ≡ self.now }
+    {
+        match event {
+            Event::Exec { word, told, .. } => {
+                link_of_word(*word) == Link::Plain && Announcement::of(*word, *told).is_none()
+            }
+            Event::Dma { .. } | Event::Irq { .. } | Event::Trap { .. } => true,
+        }
     }
 
     fn take_in(&mut self, event: &Event)

@@ -64,13 +64,6 @@ with_mark c pc = record c { marks = slice_set c.marks ((pc - RAM_START) / 4) tru
 abbrev pub with_outside : Covered → ℕ → ℕ → Covered
 with_outside c step pc = record c { found = tallied_with c.found (outside_at (code_made_of (make_now c)) step pc) }
 
--- with the finding of an event, where its pc is in no code
-abbrev pub with_found : Covered → Event → Covered
-with_found c (Dma step address word mark) = c
-with_found c (Irq step pc cause next) = c
-with_found c (Trap step pc word cause value next) = with_outside c step pc
-with_found c (Exec step pc word next result access told) = with_outside c step pc
-
 -- after one event more
 abbrev pub after : Covered → Event → Covered
 after c (Dma step address word mark) = c

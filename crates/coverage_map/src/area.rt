@@ -16,6 +16,7 @@ pub struct Area {
 }
 
 impl Area {
+    #[inline(always)]
     fn holds(&self, pc: u32) -> bool
         ensures { result ≡ holds self.now pc }
     {
@@ -24,6 +25,7 @@ impl Area {
 }
 
 /// Whether some range of code has this address.
+#[inline(always)]
 pub fn is_code(code: &[Area], pc: u32) -> bool
     ensures { result ≡ is_within (spans_made_of (area_numbers code.now)) pc }
 {

@@ -1,6 +1,6 @@
 //! Coverage: marks a word of RAM, and findings.
 ghost use Rattle.memory_map.specs.declared.TheConstants.{LEAST_RAM_KIB, MOST_RAM_KIB};
-ghost use Rattle.std.specs.Prelude.{◌≡◌, ℕ, ◌*◌, ◌<◌, ◌≤◌, List, [], ◌∷◌, ◌++◌, length, slice_get, IfOk};
+ghost use Rattle.std.specs.Prelude.{◌≡◌, ℕ, false, IsTrue, ◌*◌, ◌<◌, ◌≤◌, List, [], ◌∷◌, ◌++◌, length, slice_get, IfOk};
 ghost use Rattle.run_events.specs.declared.event.Event.{Event};
 ghost use Rattle.run_events.specs.declared.finding.Kind.TheVariants as kind;
 ghost use Rattle.run_events.specs.Event.{Fits, IsWordInRam};
@@ -8,7 +8,7 @@ ghost use Rattle.analysis_model.specs.Complaints.{findings};
 ghost use Rattle.analysis_model.specs.Cover.{executed_pcs, executed_ranges};
 ghost use Rattle.analysis_model.specs.Findings.{first_step, tally, kept};
 ghost use Rattle.analysis_model.specs.Made.{make_of};
-ghost use Rattle.coverage_map.specs.Coverage.{Covered, Stands, make_now, guest_now, pcs_now, ranges_now, with_found, with_mark, with_outside, after};
+ghost use Rattle.coverage_map.specs.Coverage.{Covered, Stands, make_now, guest_now, pcs_now, ranges_now, with_mark, with_outside, after};
 ghost use Rattle.coverage_map.specs.Executed.{AreExecuted};
 
 use crate::area::{Area, code_of, is_code};
@@ -44,9 +44,13 @@ impl Watcher for Coverage {
 
     ghost make = { make_now };
 
-    #[inline(never)]
     fn see(&mut self, event: &Event) {
         self.take_in(event);
+    }
+
+    #[inline(always)]
+    fn try_see(&mut self, event: &Event) -> bool {
+        self.take_covered(event)
     }
 }
 
@@ -126,36 +130,38 @@ impl Coverage {
         find_range(&self.marks, index)
     }
 
+    // Takes in an instruction of the guest's code, as nearly each is; of another event, nothing.
+    #[inline(always)]
+    fn take_covered(&mut self, event: &Event) -> bool
+        requires { Fits self.old.ram_kib event.now }
+        ensures takes { IsTrue result → self.new ≡ after self.old event.now }
+        ensures same { result ≡ false → self.new ≡ self.old }
+    {
+        let Event::Exec { pc, .. } = event else {
+            return false;
+        };
+        if !is_code(&self.code, *pc) {
+            return false;
+        }
+        self.mark(*pc);
+        true
+    }
+
     fn take_in(&mut self, event: &Event)
         requires { Fits self.old.ram_kib event.now }
         ensures { self.new ≡ after self.old event.now }
     {
-        match event {
-            Event::Exec { pc, .. } => {
-                self.mark(*pc);
-                if !is_code(&self.code, *pc) {
-                    self.find(event);
-                }
-            }
-            Event::Trap { .. } => self.find(event),
-            Event::Dma { .. } | Event::Irq { .. } => {}
-        }
-    }
-
-    // Notes an event whose pc is in no code. It stands apart since it is rare, and so that an event that was just written
-    // is read field by field.
-    #[cold]
-    #[inline(never)]
-    fn find(&mut self, event: &Event)
-        ensures { self.new ≡ with_found self.old event.now }
-    {
         match *event {
-            Event::Exec { step, pc, .. } => self.look_at(step, pc),
+            Event::Exec { step, pc, .. } => {
+                self.mark(pc);
+                self.look_at(step, pc);
+            }
             Event::Trap { step, pc, .. } => self.look_at(step, pc),
             Event::Dma { .. } | Event::Irq { .. } => {}
         }
     }
 
+    #[inline(always)]
     fn mark(&mut self, pc: u32)
         requires { IsWordInRam self.old.ram_kib pc }
         ensures { self.new ≡ with_mark self.old pc }

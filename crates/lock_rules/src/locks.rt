@@ -70,6 +70,11 @@ impl Watcher for Locks {
     fn see(&mut self, event: &Event) {
         self.take_in(event);
     }
+
+    #[inline(always)]
+    fn try_see(&mut self, event: &Event) -> bool {
+        self.is_calm(event)
+    }
 }
 
 impl Locks {

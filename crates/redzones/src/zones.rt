@@ -69,6 +69,11 @@ impl Watcher for Redzones {
     fn see(&mut self, event: &Event) {
         self.take_in(event);
     }
+
+    #[inline(always)]
+    fn try_see(&mut self, event: &Event) -> bool {
+        self.is_calm(event)
+    }
 }
 
 impl Redzones {
