@@ -22,3 +22,4 @@ pub mod Stops
 pub mod WithRecord
 pub mod CarriesLaws
 pub mod HeldRuns
+pub mod RunningLaws

@@ -4,6 +4,7 @@ pub mod Log
 pub mod Tape
 pub mod Replay
 pub mod Held
+pub mod Running
 pub mod Carries
 pub mod Recorder
 pub mod Recording

@@ -1,11 +1,11 @@
 //! A hart in code, which a machine of the definitions describes.
 ghost use Rattle.memory_map.specs.declared.TheConstants.{MOST_STEPS};
-ghost use Rattle.std.specs.Prelude.{◌≡◌, ◌*◌, ◌<◌, ℕ, false, None, IsTrue, is_some};
+ghost use Rattle.std.specs.Prelude.{◌≡◌, ◌*◌, ◌<◌, ◌≤◌, ℕ, IsTrue, is_some};
 ghost use Rattle.run_events.specs.Event.{Fits};
-ghost use Rattle.run_events.specs.declared.supply.Need.TheVariants.{Nothing};
-ghost use Rattle.any_machine.specs.Machine.{CountsSteps, Machine, is_load, power_status};
+ghost use Rattle.any_machine.specs.Machine.{CountsSteps, Machine, is_load};
+ghost use Rattle.any_machine.specs.Running.{RunSoFar, unfed};
 
-use run_events::{Event, Need, Supplied};
+use run_events::{Event, Need, Supplied, Watcher};
 
 /// A hart with its RAM, which is fed what its steps take from outside. It knows which addresses are device registers, and
 /// nothing else of devices.
@@ -39,19 +39,17 @@ pub trait Hart {
         ensures size { ram_size self.new ≡ ram_size self.old }
         ensures fits { (ram_kib : ℕ) → ram_size self.old ≡ 1024 * ram_kib → Fits ram_kib result };
 
-    /// Does the next step where it is one that the hart does fast, which loads no device register and stores no status at
-    /// the power register, and leaves what it shows in `event`. Where it answers false the hart is as before, and `step` does the step.
-    fn try_step(&mut self, lines: u8, event: &mut Event) -> bool
-        requires room { done self.old < MOST_STEPS }
-        ensures same { result ≡ false → self.new ≡ self.old }
-        ensures plain { IsTrue result → machine.needs self.old lines ≡ Nothing }
-        ensures step { IsTrue result → machine.step self.old lines None ≡ (event.new, self.new) }
-        ensures runs { IsTrue result → power_status event.new ≡ None }
-        ensures size { ram_size self.new ≡ ram_size self.old }
-        ensures fits { (ram_kib : ℕ)
-            → IsTrue result
-            → ram_size self.old ≡ 1024 * ram_kib
-            → Fits ram_kib event.new };
+    /// Does the steps to come as long as the hart does them fast, and only those below a number, and shows each. None of
+    /// them loads a device register or stores a status at the power register. A hart may do none so.
+    fn run_fast<W: Watcher>(&mut self, lines: u8, number: u32, seen: &mut W)
+        requires number { number ≤ MOST_STEPS }
+        requires size { ram_size self.old ≡ 1024 * W.ram_kib seen.old }
+        ensures runs { RunSoFar machine number (unfed done lines self.old) (unfed done lines self.new)
+            (W.has_seen seen.old) (W.has_seen seen.new) }
+        ensures rises { done self.old ≤ done self.new }
+        ensures ram { ram_size self.new ≡ ram_size self.old }
+        ensures kib { W.ram_kib seen.new ≡ W.ram_kib seen.old }
+        ensures made { W.make seen.new ≡ W.make seen.old };
 
     /// The disk writes a word into RAM before the next step. It answers what that shows.
     fn dma(&mut self, address: u32, word: u32, mark: u8) -> Event

@@ -2,7 +2,7 @@
 ghost use Rattle.memory_map.specs.declared.TheConstants.{MOST_STEPS};
 ghost use Rattle.std.specs.Prelude.{◌≡◌, ◌-◌, ◌*◌, ◌≤◌, None};
 ghost use Rattle.any_machine.specs.Held.{run_held, run_shown};
-ghost use Rattle.any_replay.specs.Running.{RunSoFar, unfed};
+ghost use Rattle.any_machine.specs.Running.{RunSoFar};
 ghost use Rattle.any_replay.specs.Standing.{held_of, SeesMore};
 
 use crate::standing::{Standing, step};
@@ -17,31 +17,7 @@ const NOTHING: Event = Event::Irq {
     next: 0,
 };
 
-// Does the steps below a number as long as the hart does them fast, and shows each. All of a replay's time goes here, so
-// an event is left where it is made, piece by piece: only one that the watcher does not look at fast is written down.
-fn run_fast<H: Hart, W: Watcher>(hart: &mut H, lines: u8, number: u32, seen: &mut W)
-    requires number { number ≤ MOST_STEPS }
-    requires size { H.ram_size hart.old ≡ 1024 * W.ram_kib seen.old }
-    ensures runs { RunSoFar H.machine number (unfed H.done lines hart.old) (unfed H.done lines hart.new)
-        (W.has_seen seen.old) (W.has_seen seen.new) }
-    ensures rises { H.done hart.old ≤ H.done hart.new }
-    ensures ram { H.ram_size hart.new ≡ H.ram_size hart.old }
-    ensures size { W.ram_kib seen.new ≡ W.ram_kib seen.old }
-    ensures made { W.make seen.new ≡ W.make seen.old }
-{
-    let mut event = NOTHING;
-    'turns: while hart.steps() < number {
-        if !hart.try_step(lines, &mut event) {
-            return;
-        }
-        if !seen.try_see(&event) {
-            let whole = event;
-            seen.see(&whole);
-        }
-    }
-}
-
-// The same of a standing, where no value waits for the step to come; else nothing.
+// Does the steps below a number that the hart does fast, where no value waits for the step to come.
 fn run_unfed<H: Hart, W: Watcher>(standing: &mut Standing<H>, number: u32, seen: &mut W)
     requires number { number ≤ MOST_STEPS }
     requires runs { standing.old.power ≡ None }
@@ -55,7 +31,7 @@ fn run_unfed<H: Hart, W: Watcher>(standing: &mut Standing<H>, number: u32, seen:
     ensures made { W.make seen.new ≡ W.make seen.old }
 {
     if standing.load.is_none() {
-        run_fast(&mut standing.hart, standing.lines, number, seen);
+        standing.hart.run_fast(standing.lines, number, seen);
     }
 }
 

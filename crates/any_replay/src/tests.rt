@@ -89,9 +89,7 @@ impl Hart for Toy {
         }
     }
 
-    fn try_step(&mut self, _lines: u8, _event: &mut Event) -> bool {
-        false
-    }
+    fn run_fast<W: Watcher>(&mut self, _lines: u8, _number: u32, _seen: &mut W) {}
 
     fn dma(&mut self, address: u32, word: u32, mark: u8) -> Event {
         Event::Dma {

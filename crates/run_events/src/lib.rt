@@ -25,5 +25,5 @@ pub use numbers::{is_record, number};
 pub use record::{EndCause, Record};
 pub use sequence::Sequence;
 pub use supply::{DmaWord, Need, Supplied};
-pub use watcher::Watcher;
+pub use watcher::{Watcher, show};
 pub use words::{of_words, to_words};

@@ -39,3 +39,18 @@ pub trait Watcher {
         false
     }
 }
+
+/// Shows the next event to a watcher. The event stays where it was made, piece by piece, where the watcher looks at it
+/// fast: only else it is written down whole.
+#[inline(always)]
+pub fn show<W: Watcher>(event: Event, seen: &mut W)
+    requires { Fits (W.ram_kib seen.old) event }
+    ensures seen { (h : List Event) → W.has_seen seen.old h → W.has_seen seen.new (h ++ event ∷ []) }
+    ensures size { W.ram_kib seen.new ≡ W.ram_kib seen.old }
+    ensures made { W.make seen.new ≡ W.make seen.old }
+{
+    if !seen.try_see(&event) {
+        let whole = event;
+        seen.see(&whole);
+    }
+}

@@ -5,7 +5,7 @@ use Rattle.memory_map.specs.Device.{is_device}
 use Rattle.memory_map.specs.Ram.{in_ram}
 use Rattle.rv_csr.specs.declared.csrs.Csrs.{Csrs}
 use Rattle.rv_csr.specs.Traps.{counted, pending}
-use Rattle.rv_csr.proofs.CounterLaws.{IsSettled, counted_by, counted_more}
+use Rattle.rv_csr.proofs.CounterLaws.{counted_by, counted_more}
 use Rattle.run_events.specs.declared.access.Access.TheVariants.{Load}
 use Rattle.rv_decode.specs.declared.instruction.Instr.{Instr}
 use Rattle.rv_decode.specs.declared.instruction.Instr.TheVariants as instr
@@ -17,7 +17,7 @@ use Rattle.hart_model.specs.Operations.{bits, sum, is_taken, load_width, load_re
 use Rattle.hart_model.specs.State.{State, register}
 use Rattle.hart_model.specs.Step.{cpu, outcome, step_by, after_decode, after_fetch, unless_interrupted}
 use Rattle.rv_cpu.specs.Batch.{Going, going, goes, goes_plainly, goes_decoded, goes_fetched, counted_times, caught_up, from}
-use Rattle.rv_cpu.specs.Midway.{Midway, settled, midway, plainly, refused, executed_plainly}
+use Rattle.rv_cpu.specs.Midway.{settled}
 use Rattle.rv_cpu.specs.Plain.{is_plain, is_plain_decoded, is_plain_fetched, is_plain_instr, is_plain_outcome, is_device_access}
 use Rattle.rv_cpu.specs.PlainRun.{plain_after, plain_next, are_plain}
 use Rattle.rv_cpu.proofs.PlainLaws.{first_of_both, second_of_both}
@@ -52,7 +52,7 @@ counted_some count more c d some fewer is cycles retired =
     whole n m some fewer = omega (arith, some, fewer)
 
 -- they do not decide on interrupts
-pending_times : (count lines : ℕ) (c : Csrs) → pending (counted_times count c) lines ≡ pending c lines
+pub pending_times : (count lines : ℕ) (c : Csrs) → pending (counted_times count c) lines ≡ pending c lines
 unfolding counted_times
 pending_times zero lines c = refl
 pending_times (suc count) lines c = pending_times count lines c
@@ -60,10 +60,10 @@ pending_times (suc count) lines c = pending_times count lines c
 -- AN INSTRUCTION
 
 -- the hart with other counters
-abbrev moved : Csrs → ℕ → State → State
+abbrev pub moved : Csrs → ℕ → State → State
 moved c n s = record s { csrs = c; step = n }
 
-abbrev with_csrs : Csrs → Outcome → Outcome
+abbrev pub with_csrs : Csrs → Outcome → Outcome
 with_csrs c (Does e) = Does (record e { csrs = c })
 with_csrs c (Raises cause value) = Raises cause value
 
@@ -105,7 +105,7 @@ module _ (s : State) (c : Csrs) (n : ℕ) where
       device false = refl
 
 -- a plain instruction does the same beside them
-outcome_moved : (s : State) (c : Csrs) (n lines word size : ℕ) (i : Instr) → is_plain_instr i ≡ true → outcome (moved c n s) lines None word size i ≡ with_csrs c (outcome s 0 None 0 size i)
+pub outcome_moved : (s : State) (c : Csrs) (n lines word size : ℕ) (i : Instr) → is_plain_instr i ≡ true → outcome (moved c n s) lines None word size i ≡ with_csrs c (outcome s 0 None 0 size i)
 unfolding outcome
 outcome_moved s c n lines word size (instr.Lui rd imm) plain = refl
 outcome_moved s c n lines word size (instr.Auipc rd imm) plain = refl
@@ -117,25 +117,6 @@ outcome_moved s c n lines word size (instr.Store op rs1 rs2 imm) plain = storing
 outcome_moved s c n lines word size (instr.OpImm op rd rs1 imm) plain = refl
 outcome_moved s c n lines word size (instr.Op op rd rs1 rs2) plain = refl
 outcome_moved s c n lines word size _ plain = cc
-
--- so it writes none of the registers of control and status
-plain_csrs : (s : State) (lines word size : ℕ) (i : Instr) (m : Midway) → m ≡ executed_plainly s i (outcome s lines None word size i) → m.state.csrs ≡ s.csrs
-plain_csrs s lines word size i m is = ap (λ (x : Midway). x.state.csrs) is ∙ by_instr (is_plain_instr i) refl
-  where
-    by_effect : (e : Effect) (b : Bool) → (if b then midway s (Does (record e { csrs = s.csrs })) else refused s).state.csrs ≡ s.csrs
-    by_effect e true = refl
-    by_effect e false = refl
-
-    by_outcome : (o : Outcome) → (plainly s (with_csrs s.csrs o)).state.csrs ≡ s.csrs
-    by_outcome (Does e) = by_effect e (not (is_device_access e.access))
-    by_outcome (Raises cause value) = refl
-
-    by_instr : (b : Bool) → is_plain_instr i ≡ b → (if b then plainly s (outcome s lines None word size i) else refused s).state.csrs ≡ s.csrs
-    by_instr true plain = subst (λ (o : Outcome). (plainly s o).state.csrs ≡ s.csrs) (sym (outcome_moved s s.csrs s.step lines word size i plain)) (by_outcome (outcome s 0 None 0 size i))
-    by_instr false plain = refl
-
-pub plain_settled : (s : State) (lines word size : ℕ) (i : Instr) (m : Midway) → m ≡ executed_plainly s i (outcome s lines None word size i) → IsSettled s.csrs → IsSettled m.state.csrs
-plain_settled s lines word size i m is settled = subst (λ (c : Csrs). IsSettled c) (sym (plain_csrs s lines word size i m is)) settled
 
 -- what a plain step left at t where it was done at s, of a hart with other counters: it is a plain one, and this is after it
 record Went (s t : State) (next : ℕ) (c : Csrs) (n : ℕ) (plain : Bool) (done : State) : Type 0 where

@@ -1,4 +1,6 @@
 pub mod BatchLaws
+pub mod ToldLaws
+pub mod ShownLaws
 pub mod CpuLaws
 pub mod MidwayLaws
 pub mod PlainLaws

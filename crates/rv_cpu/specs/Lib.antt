@@ -4,3 +4,4 @@ pub mod Plain
 pub mod PlainRun
 pub mod Sized
 pub mod Sound
+pub mod Told

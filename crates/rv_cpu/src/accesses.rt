@@ -67,15 +67,15 @@ impl Engine {
         is_aligned(address, width) && self.ram.holds(address, width)
     }
 
-    // Loads from RAM.
+    // Loads from RAM, with the width of the operation.
     #[inline(always)]
-    fn load_ram(&mut self, size: u32, op: LoadOp, rd: u32, address: u32) -> Done
+    fn load_ram(&mut self, size: u32, op: LoadOp, width: u32, rd: u32, address: u32) -> Done
         requires rd { IsRegister rd }
-        requires held { InRam (length self.old.ram) address (load_width op) }
+        requires width { width ≡ load_width op }
+        requires held { InRam (length self.old.ram) address width }
         ensures { at size result self.new
             ≡ midway self.old (model.loading_ram self.old size op rd address) }
     {
-        let width = alu::load_width(op);
         let value = self.ram.load(address, width);
         Done::Accessed {
             result: self.put(rd, alu::loaded(op, value)),
@@ -89,9 +89,18 @@ impl Engine {
         }
     }
 
-    // Loads from RAM; where the address is misaligned or elsewhere, nothing.
+    // Loads from RAM, with the width of the operation; where the address is misaligned or elsewhere, nothing.
     #[inline(always)]
-    fn try_load(&mut self, size: u32, op: LoadOp, rd: u32, rs1: u32, offset: u32) -> Done
+    fn try_load(
+        &mut self,
+        size: u32,
+        op: LoadOp,
+        width: u32,
+        rd: u32,
+        rs1: u32,
+        offset: u32,
+    ) -> Done
+        requires width { width ≡ load_width op }
         requires rd { IsRegister rd }
         requires rs1 { IsRegister rs1 }
         ensures { at size result self.new
@@ -99,8 +108,8 @@ impl Engine {
             (model.loading self.old None size op rd (sum (register self.old rs1) offset)) }
     {
         let address = self.register(rs1).wrapping_add(offset);
-        if self.has_aligned(address, alu::load_width(op)) {
-            self.load_ram(size, op, rd, address)
+        if self.has_aligned(address, width) {
+            self.load_ram(size, op, width, rd, address)
         } else {
             Done::Other
         }
@@ -116,11 +125,9 @@ impl Engine {
             (model.loading self.old None size op rd (sum (register self.old rs1) offset)) }
     {
         match op {
-            LoadOp::Lb => self.try_load(size, LoadOp::Lb, rd, rs1, offset),
-            LoadOp::Lh => self.try_load(size, LoadOp::Lh, rd, rs1, offset),
-            LoadOp::Lw => self.try_load(size, LoadOp::Lw, rd, rs1, offset),
-            LoadOp::Lbu => self.try_load(size, LoadOp::Lbu, rd, rs1, offset),
-            LoadOp::Lhu => self.try_load(size, LoadOp::Lhu, rd, rs1, offset),
+            LoadOp::Lb | LoadOp::Lbu => self.try_load(size, op, 1, rd, rs1, offset),
+            LoadOp::Lh | LoadOp::Lhu => self.try_load(size, op, 2, rd, rs1, offset),
+            LoadOp::Lw => self.try_load(size, op, 4, rd, rs1, offset),
         }
     }
 
@@ -176,20 +183,20 @@ impl Engine {
                 value: address,
             }
         } else if self.ram.holds(address, width) {
-            self.load_ram(size, op, rd, address)
+            self.load_ram(size, op, width, rd, address)
         } else {
             self.load_device(supplied, size, op, rd, address)
         }
     }
 
-    // Stores to RAM.
+    // Stores to RAM, with the width of the operation.
     #[inline(always)]
-    fn store_ram(&mut self, size: u32, op: StoreOp, value: u32, address: u32) -> Done
-        requires { InRam (length self.old.ram) address (store_width op) }
+    fn store_ram(&mut self, size: u32, op: StoreOp, width: u32, value: u32, address: u32) -> Done
+        requires width { width ≡ store_width op }
+        requires held { InRam (length self.old.ram) address width }
         ensures { at size result self.new
             ≡ midway self.old (model.storing_at self.old size op value address false) }
     {
-        let width = alu::store_width(op);
         let low = low_bytes(width, value);
         self.ram.store(address, width, low);
         Done::Accessed {
@@ -203,9 +210,18 @@ impl Engine {
         }
     }
 
-    // Stores to RAM; where the address is misaligned or elsewhere, nothing.
+    // Stores to RAM, with the width of the operation; where the address is misaligned or elsewhere, nothing.
     #[inline(always)]
-    fn try_store(&mut self, size: u32, op: StoreOp, rs2: u32, rs1: u32, offset: u32) -> Done
+    fn try_store(
+        &mut self,
+        size: u32,
+        op: StoreOp,
+        width: u32,
+        rs2: u32,
+        rs1: u32,
+        offset: u32,
+    ) -> Done
+        requires width { width ≡ store_width op }
         requires rs2 { IsRegister rs2 }
         requires rs1 { IsRegister rs1 }
         ensures { at size result self.new
@@ -214,8 +230,8 @@ impl Engine {
             (sum (register self.old rs1) offset)) }
     {
         let address = self.register(rs1).wrapping_add(offset);
-        if self.has_aligned(address, alu::store_width(op)) {
-            self.store_ram(size, op, self.register(rs2), address)
+        if self.has_aligned(address, width) {
+            self.store_ram(size, op, width, self.register(rs2), address)
         } else {
             Done::Other
         }
@@ -232,9 +248,9 @@ impl Engine {
             (sum (register self.old rs1) offset)) }
     {
         match op {
-            StoreOp::Sb => self.try_store(size, StoreOp::Sb, rs2, rs1, offset),
-            StoreOp::Sh => self.try_store(size, StoreOp::Sh, rs2, rs1, offset),
-            StoreOp::Sw => self.try_store(size, StoreOp::Sw, rs2, rs1, offset),
+            StoreOp::Sb => self.try_store(size, op, 1, rs2, rs1, offset),
+            StoreOp::Sh => self.try_store(size, op, 2, rs2, rs1, offset),
+            StoreOp::Sw => self.try_store(size, op, 4, rs2, rs1, offset),
         }
     }
 
@@ -276,7 +292,7 @@ impl Engine {
                 value: address,
             }
         } else if self.ram.holds(address, width) {
-            self.store_ram(size, op, value, address)
+            self.store_ram(size, op, width, value, address)
         } else {
             self.store_device(size, op, value, address)
         }

@@ -3,61 +3,46 @@ ghost use Rattle.std.specs.Prelude.{◌≡◌, ◌⊎◌, ℕ, ◌*◌, ◌^◌,
 ghost use Rattle.memory_map.specs.Ram.{IsWidth};
 ghost use Rattle.hart_model.specs.Operations as operations;
 
-use rv_decode::{AtomicOp, BranchOp, CsrOp, ImmOp, LoadOp, RegOp, StoreOp};
+use rv_decode::{AtomicOp, CsrOp, LoadOp, RegOp, StoreOp};
 
-// 1 where a test holds, else 0.
+/// 1 where a test holds, else 0.
 #[inline(always)]
-fn flag(test: bool) -> u32
+pub fn flag(test: bool) -> u32
     ensures { result ≡ operations.flag test }
 {
     if test { 1 } else { 0 }
 }
 
+/// Whether a word is less than another one, both as signed numbers.
 #[inline(always)]
-fn is_less_signed(a: u32, b: u32) -> bool
+pub fn is_less_signed(a: u32, b: u32) -> bool
     ensures { result ≡ int_lt (operations.signed a) (operations.signed b) }
 {
     a.cast_signed() < b.cast_signed()
 }
 
-// The shifts take the low five bits of the second operand.
+/// A word shifted left by the low five bits of the other one.
 #[inline(always)]
-fn shift_left(a: u32, b: u32) -> u32
+pub fn shift_left(a: u32, b: u32) -> u32
     ensures { result ≡ operations.shifted_left a b }
 {
     a.wrapping_shl(b)
 }
 
+/// A word shifted right by the low five bits of the other one, with zeros from the left.
 #[inline(always)]
-fn shift_right(a: u32, b: u32) -> u32
+pub fn shift_right(a: u32, b: u32) -> u32
     ensures { result ≡ operations.shifted_right a b }
 {
     a.wrapping_shr(b)
 }
 
+/// A word shifted right by the low five bits of the other one, with copies of its sign from the left.
 #[inline(always)]
-fn shift_right_signed(a: u32, b: u32) -> u32
+pub fn shift_right_signed(a: u32, b: u32) -> u32
     ensures { result ≡ operations.shifted_signed a b }
 {
     a.cast_signed().wrapping_shr(b).cast_unsigned()
-}
-
-/// What an operation makes of a register and an immediate. (2.4.1)
-#[inline(always)]
-pub fn immediate(op: ImmOp, a: u32, b: u32) -> u32
-    ensures { result ≡ operations.immediate_result op a b }
-{
-    match op {
-        ImmOp::Addi => a.wrapping_add(b),
-        ImmOp::Slti => flag(is_less_signed(a, b)),
-        ImmOp::Sltiu => flag(a < b),
-        ImmOp::Xori => a ^ b,
-        ImmOp::Ori => a | b,
-        ImmOp::Andi => a & b,
-        ImmOp::Slli => shift_left(a, b),
-        ImmOp::Srli => shift_right(a, b),
-        ImmOp::Srai => shift_right_signed(a, b),
-    }
 }
 
 // A word's signed number, in 64 bits.
@@ -163,21 +148,6 @@ pub fn register(op: RegOp, a: u32, b: u32) -> u32
         RegOp::Divu => quotient_unsigned(a, b),
         RegOp::Rem => remainder(a, b),
         RegOp::Remu => remainder_unsigned(a, b),
-    }
-}
-
-/// Whether a branch is taken, by its two registers. (2.5.2)
-#[inline(always)]
-pub fn takes_branch(op: BranchOp, a: u32, b: u32) -> bool
-    ensures { result ≡ operations.is_taken op a b }
-{
-    match op {
-        BranchOp::Beq => a == b,
-        BranchOp::Bne => a != b,
-        BranchOp::Blt => is_less_signed(a, b),
-        BranchOp::Bge => !is_less_signed(a, b),
-        BranchOp::Bltu => a < b,
-        BranchOp::Bgeu => !(a < b),
     }
 }
 

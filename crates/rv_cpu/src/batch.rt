@@ -20,7 +20,6 @@ use rv_csr::Csrs;
 use rv_decode::{Instr, LoadOp, StoreOp, decode};
 
 // The counters after so many steps that retired an instruction.
-
 fn count_steps(csrs: &mut Csrs, count: u32)
     ensures { csrs.new ≡ counted_times count csrs.old }
 {
@@ -231,8 +230,8 @@ impl Engine {
         }
     }
 
-    // Ends so many plain steps: the pc and the counters.
-    fn catch_up(&mut self, pc: u32, count: u32)
+    /// Ends so many plain steps: the pc and the counters.
+    pub fn catch_up(&mut self, pc: u32, count: u32)
         requires { self.old.step + count ≤ MOST_STEPS }
         ensures { self.new ≡ caught_up count (from self.old pc) }
     {

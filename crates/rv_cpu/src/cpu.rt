@@ -5,7 +5,7 @@ ghost use Rattle.any_machine.specs.Machine.{is_load};
 ghost use Rattle.run_events.specs.Event.{Fits};
 
 use crate::engine::Engine;
-use run_events::{Event, Need, Supplied};
+use run_events::{Event, Need, Supplied, Watcher};
 use rv_memory::Ram;
 use std::marker::Model;
 
@@ -28,8 +28,9 @@ impl Model for Cpu {
 
 impl Cpu {
     ghost use Rattle.hart_model.specs.Fetch.{grain};
-    ghost use Rattle.hart_model.specs.Machine.{holds_word};
-    ghost use Rattle.hart_model.specs.State.{register, reset_state};
+    ghost use Rattle.any_machine.specs.Running.{RunSoFar, unfed};
+    ghost use Rattle.hart_model.specs.Machine.{hart, holds_word};
+    ghost use Rattle.hart_model.specs.State.{State, register, reset_state};
     ghost use Rattle.hart_model.specs.Step.{cpu, needs, touch};
     ghost use Rattle.rv_cpu.specs.Plain.{is_plain};
     ghost use Rattle.rv_cpu.specs.PlainRun.{are_plain, plain_after};
@@ -65,23 +66,24 @@ impl Cpu {
         self.engine.step(lines, supplied)
     }
 
-    /// Does the next step where it is a plain one, and leaves what it shows in `event`; else it does nothing. A plain step
-    /// executes an instruction that is no fence, no atomic and none of the privileged manual, and that accesses no device.
-    #[inline(always)]
-    pub fn try_step(&mut self, lines: u8, event: &mut Event) -> bool
-        requires { self.old.step < MOST_STEPS }
-        ensures plain { result ≡ is_plain self.old lines }
-        ensures step { IsTrue result → cpu self.old lines None ≡ (event.new, self.new) }
-        ensures same { result ≡ false → self.new ≡ self.old }
-        ensures size { length self.new.ram ≡ length self.old.ram }
-        ensures fits { (ram_kib : ℕ) → IsTrue result → length self.old.ram
-            ≡ 1024 * ram_kib → Fits ram_kib event.new }
+    /// Does the next steps with these interrupt lines as long as they are plain ones, and only those below a number, and
+    /// shows each to a watcher. A plain step executes an instruction that is no fence, no atomic and none of the privileged
+    /// manual, and that accesses no device; it needs nothing, and stores nothing outside RAM.
+    pub fn run_shown<W: Watcher>(&mut self, lines: u8, number: u32, seen: &mut W)
+        requires number { number ≤ MOST_STEPS }
+        requires size { length self.old.ram ≡ 1024 * W.ram_kib seen.old }
+        ensures runs { RunSoFar hart number (unfed (λ (s : State). s.step) lines self.old)
+            (unfed (λ (s : State). s.step) lines self.new) (W.has_seen seen.old) (W.has_seen seen.new) }
+        ensures rises { self.old.step ≤ self.new.step }
+        ensures ram { length self.new.ram ≡ length self.old.ram }
+        ensures size { W.ram_kib seen.new ≡ W.ram_kib seen.old }
+        ensures made { W.make seen.new ≡ W.make seen.old }
     {
-        self.engine.try_step(lines, event)
+        self.engine.run_shown(lines, number, seen);
     }
 
-    /// Does the next steps with these interrupt lines as long as they are plain ones, as `try_step` says, and at most so
-    /// many. It answers how many it did. None of them needs or stores anything outside RAM.
+    /// Does the next steps with these interrupt lines as long as they are plain ones, as `run_shown` says, and at most
+    /// so many. It answers how many it did. None of them needs or stores anything outside RAM.
     pub fn run_plain(&mut self, lines: u8, at_most: u32) -> u32
         requires { self.old.step + at_most ≤ MOST_STEPS }
         ensures few { result ≤ at_most }

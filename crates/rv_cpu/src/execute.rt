@@ -39,7 +39,7 @@ impl Engine {
                 self.jump(size, rd, sum - sum % 2)
             }
             Instr::Branch { op, rs1, rs2, imm } => {
-                let taken = alu::takes_branch(op, self.register(rs1), self.register(rs2));
+                let taken = self.takes_branch(op, rs1, rs2);
                 self.branch(size, taken, self.pc.wrapping_add(imm.cast_unsigned()))
             }
             Instr::Load { op, rd, rs1, imm } => {
@@ -54,7 +54,7 @@ impl Engine {
                 self.write(
                     size,
                     rd,
-                    alu::immediate(op, self.register(rs1), imm.cast_unsigned()),
+                    self.immediate(op, rs1, imm.cast_unsigned()),
                 )
             }
             Instr::Op { op, rd, rs1, rs2 } => {

@@ -3,7 +3,7 @@ ghost use Rattle.std.specs.Prelude.{length};
 
 use crate::cpu::Cpu;
 use any_machine::Hart;
-use run_events::{Event, Need, Supplied};
+use run_events::{Event, Need, Supplied, Watcher};
 
 #[tactic(auto, unfolding(hart_model::specs::Machine::hart))]
 impl Hart for Cpu {
@@ -37,9 +37,8 @@ impl Hart for Cpu {
         Cpu::step(self, lines, supplied)
     }
 
-    #[inline(always)]
-    fn try_step(&mut self, lines: u8, event: &mut Event) -> bool {
-        Cpu::try_step(self, lines, event)
+    fn run_fast<W: Watcher>(&mut self, lines: u8, number: u32, seen: &mut W) {
+        Cpu::run_shown(self, lines, number, seen);
     }
 
     fn dma(&mut self, address: u32, word: u32, mark: u8) -> Event {

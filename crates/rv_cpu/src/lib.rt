@@ -14,6 +14,7 @@ mod moves;
 mod need;
 mod operands;
 mod plain;
+mod shown;
 mod step;
 mod system;
 #[cfg(test)]

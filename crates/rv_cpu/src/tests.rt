@@ -1,10 +1,10 @@
 //! The hart on small programs, whose values are worked by hand from the manuals.
-ghost use Rattle.std.specs.Prelude.{◌≡◌, is_some};
+ghost use Rattle.std.specs.Prelude.{◌≡◌, ◌*◌, [], IfOk, is_some, length};
 ghost use Rattle.any_machine.specs.Machine.{is_load};
 
 use crate::Cpu;
 use memory_map::{NoMemory, RAM_START, SERIAL_DATA};
-use run_events::{Event, Need, Supplied};
+use run_events::{Event, Need, Supplied, Watcher};
 use rv_memory::Ram;
 use std::alloc::Global;
 use std::test::Fail;
@@ -12,7 +12,9 @@ use std::test::Fail;
 const WORD: u32 = 0x8000_0100;
 
 // A hart at the first of these words.
-fn hart_of(alloc: Global, words: &[u32]) -> Result<Cpu, NoMemory> {
+fn hart_of(alloc: Global, words: &[u32]) -> Result<Cpu, NoMemory>
+    ensures { IfOk result (λ cpu. length cpu.ram ≡ 1024 * 64) }
+{
     let mut ram = Ram::new(alloc, 64)?;
     let mut address = RAM_START;
     for word in words {
@@ -184,22 +186,46 @@ fn loads_what_a_device_gives(rt: HostRuntime) -> Result<(), Fail> {
     Ok(())
 }
 
+// A watcher that keeps the pc of the last event that it saw, and their number.
+#[derive(Drop)]
+struct Counter {
+    events: u32,
+    pc: u32,
+}
+
+impl Watcher for Counter {
+    ghost has_seen = { λ _ _. Unit {0} };
+
+    ghost ram_kib = { λ _. 64 };
+
+    ghost make = { λ _. [] };
+
+    fn see(&mut self, event: &Event) {
+        self.events = self.events.saturating_add(1);
+        if let Event::Exec { pc, .. } = event {
+            self.pc = *pc;
+        }
+    }
+}
+
 #[test]
-fn tries_plain_steps_alone(rt: HostRuntime) -> Result<(), Fail> {
-    // addi x5, x0, 7; ecall
-    let mut cpu = hart_of(rt.alloc(), &[0x0070_0293, 0x0000_0073])?;
-    let mut event = Event::Irq {
-        step: 0,
-        pc: 0,
-        cause: 0,
-        next: 0,
-    };
-    assert!(rt; cpu.steps() < 1_000_000_000);
-    assert!(rt; cpu.try_step(0, &mut event));
-    assert!(rt; cpu.steps() < 1_000_000_000);
-    assert!(rt; !cpu.try_step(0, &mut event));
-    assert_eq!(rt; cpu.pc(), 0x8000_0004);
-    assert_eq!(rt; cpu.register(5), 7);
-    assert!(rt; cpu.ram().holds(RAM_START, 4));
+fn shows_plain_steps_alone(rt: HostRuntime) -> Result<(), Fail> {
+    // addi x5, x0, 7; addi x5, x5, 7; ecall
+    let words = [0x0070_0293, 0x0072_8293, 0x0000_0073];
+    // each with the number below which steps are done, the steps done, the last pc seen and x5
+    let cases = [
+        (0, 0, 0, 0),
+        (1, 1, 0x8000_0000, 7),
+        (2, 2, 0x8000_0004, 14),
+        (9, 2, 0x8000_0004, 14),
+    ];
+    for (number, steps, pc, value) in cases {
+        let mut cpu = hart_of(rt.alloc(), &words)?;
+        let mut counter = Counter { events: 0, pc: 0 };
+        cpu.run_shown(0, number, &mut counter);
+        assert_eq!(rt; (cpu.steps(), counter.events, counter.pc), (steps, steps, pc), "{number}");
+        assert_eq!(rt; cpu.register(5), value, "{number}");
+        assert_eq!(rt; cpu.pc(), RAM_START + 4 * steps, "{number}");
+    }
     Ok(())
 }

@@ -1,6 +1,7 @@
 use Rattle.std.proofs.Common.{◌*◌, not, is_some, sym, ap, ◌∙◌, arith}
+use Rattle.any_machine.proofs.RunningLaws.{loop_next, loop_joins}
 use Rattle.any_replay.specs.Standing.{held_of}
-use Rattle.any_replay.proofs.RunLaws.{RunEnds, loop_next, loop_joins, loop_done, loop_off, loop_waits, may_by}
+use Rattle.any_replay.proofs.RunLaws.{RunEnds, loop_done, loop_off, loop_waits, may_by}
 use Rattle.any_replay.proofs.running.run_to.Given.{Over}
 use Rattle.any_replay.proofs.running.run_to.Goals as goal
 

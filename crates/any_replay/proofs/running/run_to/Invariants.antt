@@ -1,6 +1,6 @@
 use Rattle.std.proofs.Common.{◌≡◌, ◌-◌}
 use Rattle.any_replay.specs.Standing.{held_of}
-use Rattle.any_replay.specs.Running.{RunSoFar}
+use Rattle.any_machine.specs.Running.{RunSoFar}
 use Rattle.any_replay.proofs.running.run_to.Given as goal
 
 -- some steps of the run were done and shown

@@ -1,0 +1,52 @@
+-- A run of a replay, step by step as a loop does it.
+use Rattle.std.proofs.Common.{◌≡◌, ℕ, suc, ◌<◌, not, List, [], ◌∷◌, ◌++◌, None, sym, ap, ◌∙◌, subst, append-nil, append_assoc}
+use Rattle.std.specs.Prelude.{true, is_some}
+use Rattle.run_events.specs.declared.event.Event.{Event}
+use Rattle.run_events.specs.declared.supply.Need.TheVariants.{Nothing}
+use Rattle.any_machine.specs.Machine.{CountsSteps, Machine, power_status}
+use Rattle.any_machine.specs.Replay.{load_fault}
+use Rattle.any_machine.specs.Held.{Held, RunsTo, held_event, held_next, may_step}
+use Rattle.any_machine.specs.Running.{RunSoFar, unfed}
+use Rattle.any_machine.proofs.HeldRuns.{runs_on}
+
+module _ {S : Type 0} (m : Machine S) (number : ℕ) where
+  pub loop_first : (first : Held S) (Seen : List Event → Type 0) → RunSoFar m number first first Seen Seen
+  loop_first first Seen = record { events = []; goes = λ last rest runs. runs; seen = λ h was. subst Seen (sym (append-nil h)) was }
+
+  pub loop_next : (first now next' : Held S) (event : Event) (Seen SeenNow SeenNext : List Event → Type 0) → RunSoFar m number first now Seen SeenNow → now.step < number → may_step m now ≡ true → next' ≡ held_next m now → event ≡ held_event m now
+      → ((h : List Event) → SeenNow h → SeenNext (h ++ event ∷ [])) → RunSoFar m number first next' Seen SeenNext
+  loop_next first now next' event Seen SeenNow SeenNext so_far lt may next_is event_is sees = record {
+    events = so_far.events ++ event ∷ [];
+    goes =
+        λ last rest runs.
+        let on = runs_on m number now last rest lt may (subst (λ h. RunsTo m number h last rest) next_is runs) in
+        subst (RunsTo m number first last) (ap (λ e. so_far.events ++ e ∷ rest) (sym event_is) ∙ sym (append_assoc so_far.events (event ∷ []) rest)) (so_far.goes last (held_event m now ∷ rest) on);
+    seen = λ h was. subst SeenNext (append_assoc h so_far.events (event ∷ [])) (sees (h ++ so_far.events) (so_far.seen h was));
+  }
+
+  -- two parts of a run, one after the other
+  pub loop_joins : (first middle now : Held S) (Seen SeenThen SeenNow : List Event → Type 0) → RunSoFar m number first middle Seen SeenThen → RunSoFar m number middle now SeenThen SeenNow → RunSoFar m number first now Seen SeenNow
+  loop_joins first middle now Seen SeenThen SeenNow one two = record {
+    events = one.events ++ two.events;
+    goes = λ last rest runs. subst (RunsTo m number first last) (sym (append_assoc one.events two.events rest)) (one.goes last (two.events ++ rest) (two.goes last rest runs));
+    seen = λ h was. subst SeenNow (append_assoc h one.events two.events) (two.seen (h ++ one.events) (one.seen h was));
+  }
+
+-- a step that needs nothing and stores no status at the power register, of a hart that is fed nothing
+module _ {S : Type 0} (m : Machine S) (done : S → ℕ) (counts : CountsSteps m done) (lines : ℕ) (s s' : S) (event : Event) (is : m.step s lines None ≡ (event, s')) where
+  unfed_event : event ≡ held_event m (unfed done lines s)
+  unfed_event = ap (λ (x : Event × S). x.0) (sym is)
+
+  unfed_next : power_status event ≡ None → unfed done lines s' ≡ held_next m (unfed done lines s)
+  unfed_next runs =
+      ap (λ (x : Event × S). unfed done lines x.1) (sym is)
+      ∙ ap (λ k. record { state = (m.step s lines None).1; step = k; lines = lines; load = None; power = None }) (counts.stepped s lines None)
+      ∙ ap (λ p. record { state = (m.step s lines None).1; step = suc (done s); lines = lines; load = None; power = p }) (sym runs ∙ ap (λ (x : Event × S). power_status x.0) (sym is))
+
+  pub unfed_counts : done s' ≡ suc (done s)
+  unfed_counts = ap (λ (x : Event × S). done x.1) (sym is) ∙ counts.stepped s lines None
+
+  pub loop_fast : (number : ℕ) (first : Held S) (Seen SeenNow SeenNext : List Event → Type 0) → RunSoFar m number first (unfed done lines s) Seen SeenNow → done s < number → m.needs s lines ≡ Nothing → power_status event ≡ None
+      → ((h : List Event) → SeenNow h → SeenNext (h ++ event ∷ [])) → RunSoFar m number first (unfed done lines s') Seen SeenNext
+  loop_fast number first Seen SeenNow SeenNext so_far lt nothing runs sees =
+      loop_next m number first (unfed done lines s) (unfed done lines s') event Seen SeenNow SeenNext so_far lt (ap (λ need. not (is_some (load_fault need None))) nothing) (unfed_next runs) unfed_event sees

@@ -1,0 +1,64 @@
+-- Each turn of the loop is one more plain step, shown.
+use Rattle.std.proofs.Common.{◌≡◌, ◌+◌, ◌*◌, ◌<◌, None, refl, sym, ap, ◌∙◌, subst, arith}
+use Rattle.any_machine.specs.Running.{RunSoFar, unfed}
+use Rattle.rv_csr.specs.Traps.{pending}
+use Rattle.hart_model.specs.Aligned.{IsAligned}
+use Rattle.hart_model.specs.Machine.{hart}
+use Rattle.hart_model.specs.State.{State}
+use Rattle.rv_cpu.specs.Batch.{caught_up, from}
+use Rattle.rv_cpu.proofs.BatchLaws.{free_by}
+use Rattle.rv_cpu.proofs.ShownLaws.{Standing, steps_of, aligned_ahead, goes_on, stays, stands_first, stands_next, stands_still, told_fits}
+use Rattle.rv_cpu.proofs.engine.Engine.run_shown.Given.{Over}
+use Rattle.rv_cpu.proofs.engine.Engine.run_shown.Goals as goal
+use Rattle.rv_cpu.proofs.engine.Engine.run_shown.Goals.{else-steps-test, then-steps-test+then-not-show_next}
+
+pub steps-init : goal.steps-init
+steps-init g c = record {
+  stands = stands_first c.args.lines c.args.number c.args.self.now (g.W.Watcher.has_seen c.args.seen.now) c.requires.aligned;
+  few = grind (arith, c.if-self-number.false, c.self.view_is);
+  size = refl;
+  made = refl;
+}
+
+pub show_next-requires-clause-fits : goal.show_next-requires-clause-fits
+show_next-requires-clause-fits g c =
+    let stands = c.steps.invariant.stands in
+    let free : pending c.args.self.now.csrs c.args.lines ≡ None = free_by _ (grind (arith, c.self.view_is, c.pending.ensures, c.is_some.ensures, c.if-is_some.false)) in
+    told_fits c.args.lines c.steps.behind (g.W.Watcher.ram_kib c.steps.seen) c.steps.self (ap (λ k. pending k c.args.lines) stands.csrs ∙ free) stands.aligned
+    (stands.ram ∙ c.requires.size ∙ ap (λ k. 1024 * k) (sym c.steps.invariant.size))
+
+pub steps-preserved : goal.steps-preserved
+steps-preserved g c =
+    let stands = c.steps.invariant.stands in
+    let free : pending c.args.self.now.csrs c.args.lines ≡ None = free_by _ (grind (arith, c.self.view_is, c.pending.ensures, c.is_some.ensures, c.if-is_some.false)) in
+    let room : c.steps.self.step + c.steps.behind < c.args.number = grind (arith, c.self-in-steps.view_is, c.steps-test.true) in
+    let on =
+        goes_on c.args.lines c.steps.behind c.steps.self c.show_next.new.self (g.W.Watcher.has_seen c.steps.seen) (g.W.Watcher.has_seen c.show_next.new.seen) c.show_next.ensures.state c.show_next.ensures.seen
+        (ap (λ k. pending k c.args.lines) stands.csrs ∙ free) (sym c.show_next.ensures.answer ∙ c.if-not-show_next.false)
+    in
+    record {
+      stands = stands_next c.args.lines c.args.number c.steps.behind c.args.self.now c.steps.self c.show_next.new.self (g.W.Watcher.has_seen c.args.seen.now) (g.W.Watcher.has_seen c.steps.seen) (g.W.Watcher.has_seen c.show_next.new.seen) stands room on;
+      few = omega (arith, room, on.step);
+      size = c.show_next.ensures.size ∙ c.steps.invariant.size;
+      made = c.show_next.ensures.made ∙ c.steps.invariant.made;
+    }
+
+-- where the loop ends
+left : (g : Over) (c : goal.After-catch_up-2 g) → Standing c.args.lines c.args.number c.steps.behind c.args.self.now c.steps-test.self (g.W.Watcher.has_seen c.args.seen.now) (g.W.Watcher.has_seen c.steps-test.seen)
+left g c = elim c.steps-test.branch [
+  | else-steps-test w ↦ rw (w.self-is, w.seen-is) c.steps.invariant.stands
+  | then-steps-test+then-not-show_next w ↦
+    rw (w.self-is, w.seen-is)
+    (stands_still c.args.lines c.args.number c.steps.behind c.args.self.now c.steps.self w.show_next.new.self (g.W.Watcher.has_seen c.args.seen.now) (g.W.Watcher.has_seen c.steps.seen) (g.W.Watcher.has_seen w.show_next.new.seen) c.steps.invariant.stands
+    (stays c.args.lines c.steps.behind c.steps.self w.show_next.new.self (g.W.Watcher.has_seen c.steps.seen) (g.W.Watcher.has_seen w.show_next.new.seen) w.show_next.ensures.state w.show_next.ensures.seen (sym w.show_next.ensures.answer ∙ w.if-not-show_next.true)))
+]
+
+caught : (g : Over) (c : goal.After-catch_up-2 g) → c.catch_up-2.new.self ≡ caught_up c.steps.behind c.steps-test.self
+caught g c = c.catch_up-2.ensures ∙ ap (λ (u : State). caught_up c.steps.behind (from c.steps-test.self u.pc)) c.catch_up.view_is
+
+pub returns-clause-runs : goal.returns-clause-runs
+returns-clause-runs g c =
+    subst (λ (s : State). RunSoFar hart c.args.number (unfed steps_of c.args.lines c.args.self.now) (unfed steps_of c.args.lines s) (g.W.Watcher.has_seen c.args.seen.now) (g.W.Watcher.has_seen c.steps-test.seen)) (sym (caught g c)) (left g c).so_far
+
+pub returns-clause-aligned : goal.returns-clause-aligned
+returns-clause-aligned g c = subst (λ (s : State). IsAligned s) (sym (caught g c)) (aligned_ahead c.steps.behind c.steps-test.self (left g c).aligned)

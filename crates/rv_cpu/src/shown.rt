@@ -1,0 +1,92 @@
+//! Plain steps that are shown: the counters rise once, at the end.
+ghost use Rattle.memory_map.specs.declared.TheConstants.{MOST_STEPS};
+ghost use Rattle.std.specs.Prelude.{◌≡◌, ℕ, ◌+◌, ◌*◌, ◌<◌, ◌≤◌, List, ◌++◌, Option, None, Some, is_some, length};
+ghost use Rattle.any_machine.specs.Running.{RunSoFar, unfed};
+ghost use Rattle.run_events.specs.declared.event.Event.{Event};
+ghost use Rattle.run_events.specs.Event.{Fits};
+ghost use Rattle.rv_csr.specs.Traps.{pending};
+ghost use Rattle.hart_model.specs.Aligned.{IsAligned};
+ghost use Rattle.hart_model.specs.Machine.{hart};
+ghost use Rattle.hart_model.specs.State.{State};
+ghost use Rattle.rv_cpu.specs.Told.{events_told, next_told, state_told};
+
+use crate::done::Done;
+use crate::engine::Engine;
+use crate::step::SIZE;
+use run_events::{Access, Event, Watcher, show};
+use rv_decode::decode;
+
+impl Engine {
+    // Does the next step where it is a plain one, and shows it; else nothing. The counters are so many steps behind, and
+    // stay where they are. No interrupt waits.
+    fn show_next<W: Watcher>(&mut self, lines: u8, behind: u32, seen: &mut W) -> bool
+        requires room { self.old.step + behind < MOST_STEPS }
+        requires fits { (event : Event) (next : State) → next_told behind lines self.old ≡ Some (event, next)
+            → Fits (W.ram_kib seen.old) event }
+        ensures answer { result ≡ is_some (next_told behind lines self.old) }
+        ensures state { self.new ≡ state_told self.old (next_told behind lines self.old) }
+        ensures seen { (h : List Event)
+            → W.has_seen seen.old h
+            → W.has_seen seen.new (h ++ events_told (next_told behind lines self.old)) }
+        ensures size { W.ram_kib seen.new ≡ W.ram_kib seen.old }
+        ensures made { W.make seen.new ≡ W.make seen.old }
+    {
+        if !self.ram.holds(self.pc, SIZE) {
+            return false;
+        }
+        let word = self.ram.load(self.pc, SIZE);
+        let Some(instr) = decode(word) else {
+            return false;
+        };
+        let told = self.told();
+        let (result, next, access) = match self.execute_plainly(lines, word, SIZE, instr) {
+            Done::Quiet { result, next } => (result, next, Access::Quiet),
+            Done::Accessed { result, access } => (result, self.next(SIZE), access),
+            _ => return false,
+        };
+        let event = Event::Exec {
+            step: self.steps + behind,
+            pc: self.pc,
+            word,
+            next,
+            result,
+            access,
+            told,
+        };
+        self.pc = next;
+        show(event, seen);
+        true
+    }
+
+    /// Does the next steps with these interrupt lines as long as they are plain ones, and only those below a number, and
+    /// shows each. All of a replay's time goes here. It stands apart for each watcher, so that it is small enough to have
+    /// the whole step and the watcher's look in it.
+    #[inline(never)]
+    pub fn run_shown<W: Watcher>(&mut self, lines: u8, number: u32, seen: &mut W)
+        requires number { number ≤ MOST_STEPS }
+        requires aligned { IsAligned self.old }
+        requires size { length self.old.ram ≡ 1024 * W.ram_kib seen.old }
+        ensures runs { RunSoFar hart number (unfed (λ (s : State). s.step) lines self.old)
+            (unfed (λ (s : State). s.step) lines self.new) (W.has_seen seen.old) (W.has_seen seen.new) }
+        ensures rises { self.old.step ≤ self.new.step }
+        ensures aligned { IsAligned self.new }
+        ensures ram { length self.new.ram ≡ length self.old.ram }
+        ensures size { W.ram_kib seen.new ≡ W.ram_kib seen.old }
+        ensures made { W.make seen.new ≡ W.make seen.old }
+    {
+        if self.steps >= number {
+            return;
+        }
+        if self.csrs.pending(lines).is_some() {
+            return;
+        }
+        let mut behind = 0;
+        'steps: while self.steps + behind < number {
+            if !self.show_next(lines, behind, seen) {
+                break 'steps;
+            }
+            behind += 1;
+        }
+        self.catch_up(self.pc, behind);
+    }
+}
