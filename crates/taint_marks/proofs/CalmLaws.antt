@@ -79,7 +79,7 @@ module _ (m : Marks) where
   result_same rd None clear = refl
   result_same rd (Some mark) clear = ap (λ v. registers_with m.registers rd (Some v)) clear.0 ∙ registers_same rd clear.1 (is_general rd)
 
-  shade_same : (address width : ℕ) (mark : Option ℕ) → IfSome mark (λ v. (v ≡ 0) × NoneMarked m address width) → shade_with m.shade address width mark ≡ m.shade
+  pub shade_same : (address width : ℕ) (mark : Option ℕ) → IfSome mark (λ v. (v ≡ 0) × NoneMarked m address width) → shade_with m.shade address width mark ≡ m.shade
   shade_same address width None clear = refl
   shade_same address width (Some mark) clear = painted-same m.shade address (address + width) mark (λ a covered. clear.1 a (grind (arith, covered)) (grind (arith, covered)) ∙ sym clear.0)
 
@@ -100,7 +100,7 @@ module _ (m : Marks) where
       let shade = shade_same given.address given.width given.stored none.stored in
       ap (λ l. record (with_given m given) { registers = l }) registers ∙ ap (λ n. record m { scratch = n; shade = shade_with m.shade given.address given.width given.stored }) scratch ∙ ap (λ s. record m { shade = s }) shade
 
-  union_unmarked : (address width : ℕ) → NoneMarked m address width → union_of (mark_now m) (bytes_from address width) ≡ 0
+  pub union_unmarked : (address width : ℕ) → NoneMarked m address width → union_of (mark_now m) (bytes_from address width) ≡ 0
   union_unmarked address zero none = refl
   union_unmarked address (suc width) none =
       ap (λ v. bit_or v (union_of (mark_now m) (bytes_from (address + 1) width))) (none address (omega arith) (omega arith))

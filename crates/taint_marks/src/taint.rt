@@ -484,7 +484,7 @@ impl Taint {
         requires within { InRam (1024 * self.now.ram_kib) address width }
         ensures { result ≡ union_of (mark_now self.now) (bytes_from address width) }
     {
-        if self.shadow.is_clear(address, u8::MAX) {
+        if self.is_unmarked(address) {
             0
         } else {
             self.union_of(address, width)
@@ -552,7 +552,7 @@ impl Taint {
         requires { width ≤ 4 }
         ensures { self.new ≡ record self.old { shade = shade_with self.old.shade address width (Some mark) } }
     {
-        if mark != 0 || !self.shadow.is_clear(address, u8::MAX) {
+        if mark != 0 || !self.is_unmarked(address) {
             self.paint(address, width, mark);
         }
     }
