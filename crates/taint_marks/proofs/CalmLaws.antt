@@ -236,17 +236,16 @@ module _ (m : Marks) where
         rw (straight, quiet) same
 
   -- the marks that the fields name, joined
-  pub AreUnmarked-joined : (word : ℕ) → bit_or (bit_or (bit_or (get_or m.registers (bit_and (word / 2 ^ 7) 31) 0) (get_or m.registers (bit_and (word / 2 ^ 15) 31) 0)) (get_or m.registers (bit_and (word / 2 ^ 20) 31) 0)) m.scratch ≡ 0 → AreUnmarked m word
-  AreUnmarked-joined word none =
-      let rd = get_or m.registers (bit_and (word / 2 ^ 7) 31) 0 in
-      let rs1 = get_or m.registers (bit_and (word / 2 ^ 15) 31) 0 in
-      let rs2 = get_or m.registers (bit_and (word / 2 ^ 20) 31) 0 in
-      let three : bit_or (bit_or rd rs1) rs2 ≡ 0 = omega (arith, none, le_or_l (bit_or (bit_or rd rs1) rs2) m.scratch) in
+  pub AreUnmarked_joined : (word rd rs1 rs2 scratch : ℕ) → rd ≡ mark_now m (Register (bit_and (word / 2 ^ 7) 31)) → rs1 ≡ mark_now m (Register (bit_and (word / 2 ^ 15) 31)) → rs2 ≡ mark_now m (Register (bit_and (word / 2 ^ 20) 31)) → scratch ≡ m.scratch
+      → (bit_or (bit_or (bit_or rd rs1) rs2) scratch == 0) ≡ true → AreUnmarked m word
+  AreUnmarked_joined word rd rs1 rs2 scratch at at1 at2 held none =
+      let all : bit_or (bit_or (bit_or rd rs1) rs2) scratch ≡ 0 = grind (arith, none) in
+      let three : bit_or (bit_or rd rs1) rs2 ≡ 0 = omega (arith, all, le_or_l (bit_or (bit_or rd rs1) rs2) scratch) in
       let two : bit_or rd rs1 ≡ 0 = omega (arith, three, le_or_l (bit_or rd rs1) rs2) in
       let named = λ (n : ℕ). ap (λ k. get_or m.registers k 0) (sym (and_mask n 5)) in
       record {
-        rd = named (word / 2 ^ 7) ∙ omega (arith, two, le_or_l rd rs1);
-        rs1 = named (word / 2 ^ 15) ∙ omega (arith, two, le_or_r rd rs1);
-        rs2 = named (word / 2 ^ 20) ∙ omega (arith, three, le_or_r (bit_or rd rs1) rs2);
-        scratch = omega (arith, none, le_or_r (bit_or (bit_or rd rs1) rs2) m.scratch);
+        rd = named (word / 2 ^ 7) ∙ sym at ∙ omega (arith, two, le_or_l rd rs1);
+        rs1 = named (word / 2 ^ 15) ∙ sym at1 ∙ omega (arith, two, le_or_r rd rs1);
+        rs2 = named (word / 2 ^ 20) ∙ sym at2 ∙ omega (arith, three, le_or_r (bit_or rd rs1) rs2);
+        scratch = sym held ∙ omega (arith, all, le_or_r (bit_or (bit_or rd rs1) rs2) scratch);
       }

@@ -134,7 +134,6 @@ impl Taint {
 
     // Whether the event announces nothing and there is no mark where it could read or write one, as with nearly each event
     // of a guest that handles little marked input.
-    #[tactic(auto, using(crate::proofs::CalmLaws::calm_word))]
     #[inline(always)]
     fn is_calm(&self, event: &Event) -> bool
         requires { Fits self.now.ram_kib event.now }
@@ -158,13 +157,14 @@ impl Taint {
 
     // Whether mscratch has no mark and none of the registers has that the fields of the word could name. What its
     // instruction is does not matter.
+    #[tactic(auto, using(crate::proofs::CalmLaws::AreUnmarked_joined))]
     #[inline(always)]
     fn names_no_mark(&self, word: u32) -> bool
         ensures { result ≡ true → AreUnmarked self.now word }
     {
-        let rd = self.registers[(word >> 7 & 31) as usize];
-        let rs1 = self.registers[(word >> 15 & 31) as usize];
-        let rs2 = self.registers[(word >> 20 & 31) as usize];
+        let rd = self.register(word >> 7 & 31);
+        let rs1 = self.register(word >> 15 & 31);
+        let rs2 = self.register(word >> 20 & 31);
         rd | rs1 | rs2 | self.scratch == 0
     }
 
@@ -177,7 +177,9 @@ impl Taint {
         match *access {
             Access::Quiet => true,
             Access::Load {
-                device: true, mark, ..
+                device: true,
+                mark,
+                ..
             } => mark == 0,
             Access::Store { device: true, .. } => true,
             Access::Load { address, .. }
