@@ -155,8 +155,7 @@ impl Taint {
         }
     }
 
-    // Whether mscratch has no mark and none of the registers has that the fields of the word could name. What its
-    // instruction is does not matter.
+    // Whether mscratch has no mark, nor has any register that a field of the word names, be it read, written or neither.
     #[tactic(auto, using(crate::proofs::CalmLaws::AreUnmarked_joined))]
     #[inline(always)]
     fn names_no_mark(&self, word: u32) -> bool
@@ -181,14 +180,21 @@ impl Taint {
                 mark,
                 ..
             } => mark == 0,
-            Access::Store { device: true, .. } => true,
-            Access::Load { address, .. }
-            | Access::Store { address, .. }
+            Access::Store {
+                address,
+                device,
+                ..
+            } => device || self.is_unmarked(address),
+            Access::Load {
+                address,
+                device: false,
+                ..
+            }
             | Access::Swap { address, .. } => self.is_unmarked(address),
         }
     }
 
-    // Whether none of the at most four bytes from an address on has a mark.
+    // Whether none of at most four bytes from an address on has a mark.
     #[inline(always)]
     fn is_unmarked(&self, address: u32) -> bool
         ensures { result ≡ true → (width : ℕ) → width ≤ 4 → NoneMarked self.now address width }
