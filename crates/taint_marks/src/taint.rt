@@ -180,16 +180,9 @@ impl Taint {
                 mark,
                 ..
             } => mark == 0,
-            Access::Store {
-                address,
-                device,
-                ..
-            } => device || self.is_unmarked(address),
-            Access::Load {
-                address,
-                device: false,
-                ..
-            }
+            Access::Store { device: true, .. } => true,
+            Access::Load { address, .. }
+            | Access::Store { address, .. }
             | Access::Swap { address, .. } => self.is_unmarked(address),
         }
     }
