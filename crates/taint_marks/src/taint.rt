@@ -167,7 +167,7 @@ impl Taint {
         rd | rs1 | rs2 | self.scratch == 0
     }
 
-    // Whether the access touches no marked byte and brings no mark from a device.
+    // Whether the access is to no device and touches no marked byte.
     #[inline(always)]
     fn touches_no_mark(&self, access: &Access) -> bool
         requires { AccessFits self.now.ram_kib access.now }
@@ -175,15 +175,7 @@ impl Taint {
     {
         match *access {
             Access::Quiet => true,
-            Access::Load {
-                device: true,
-                mark,
-                ..
-            } => mark == 0,
-            Access::Store { device: true, .. } => true,
-            Access::Load { address, .. }
-            | Access::Store { address, .. }
-            | Access::Swap { address, .. } => self.is_unmarked(address),
+            _ => !access.is_of_device() && self.is_unmarked(access.touched_from()),
         }
     }
 
