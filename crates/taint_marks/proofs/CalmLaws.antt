@@ -110,13 +110,13 @@ module _ (m : Marks) where
   old_unmarked access.Quiet none = refl
   old_unmarked (access.Load address width value device mark) none = refl
   old_unmarked (access.Store address width value device) none = refl
-  old_unmarked (access.Swap address old new) none = union_unmarked address 4 none
+  old_unmarked (access.Swap address old new) none = union_unmarked address 4 none.bytes
 
   -- what is loaded, and what is stored
   loaded_none : (rd : ℕ) (access : Access) → mark_now m (Register rd) ≡ 0 → IsUnmarked m access → IsNone (marked_by (mark_now m) (with_result rd (loaded access) no_writes))
   loaded_none rd access.Quiet clear none = record { result = tt; scratch = tt; stored = tt }
-  loaded_none rd (access.Load address width value true mark) clear none = record { result = (none, clear); scratch = tt; stored = tt }
-  loaded_none rd (access.Load address width value false mark) clear none = record { result = (union_unmarked address width none, clear); scratch = tt; stored = tt }
+  loaded_none rd (access.Load address width value true mark) clear none = absurd (let clash : true ≡ false = none.in_ram in cc)
+  loaded_none rd (access.Load address width value false mark) clear none = record { result = (union_unmarked address width none.bytes, clear); scratch = tt; stored = tt }
   loaded_none rd (access.Store address width value device) clear none = record { result = tt; scratch = tt; stored = tt }
   loaded_none rd (access.Swap address old new) clear none = record { result = tt; scratch = tt; stored = tt }
 
@@ -124,8 +124,8 @@ module _ (m : Marks) where
   stored_none access.Quiet stored is none = record { result = tt; scratch = tt; stored = tt }
   stored_none (access.Load address width value device mark) stored is none = record { result = tt; scratch = tt; stored = tt }
   stored_none (access.Store address width value true) stored is none = record { result = tt; scratch = tt; stored = tt }
-  stored_none (access.Store address width value false) stored is none = record { result = tt; scratch = tt; stored = (is, none) }
-  stored_none (access.Swap address old new) stored is none = record { result = tt; scratch = tt; stored = (is, none) }
+  stored_none (access.Store address width value false) stored is none = record { result = tt; scratch = tt; stored = (is, none.bytes) }
+  stored_none (access.Swap address old new) stored is none = record { result = tt; scratch = tt; stored = (is, none.bytes) }
 
   -- an atomic operation does both
   both_none : (rd : ℕ) (access : Access) (result stored : Sources) → mark_now m (Register rd) ≡ 0 → mark_of (mark_now m) result ≡ 0 → mark_of (mark_now m) stored ≡ 0 → IsUnmarked m access → IsNone (marked_by (mark_now m) (with_result rd (Some result) (writes_bytes access stored)))

@@ -1,7 +1,7 @@
 -- Where an event finds no mark that it could move.
-use Rattle.std.specs.Prelude.{◌≡◌, ℕ, ◌+◌, ◌≤◌, ◌<◌, true, false}
+use Rattle.std.specs.Prelude.{◌≡◌, ℕ, ◌+◌, ◌≤◌, ◌<◌, false}
 use Rattle.run_events.specs.declared.access.Access.{Access}
-use Rattle.run_events.specs.declared.access.Access.TheVariants.{Quiet, Load, Store, Swap}
+use Rattle.run_events.specs.Access.{touched_from, touched_len, is_of_device}
 use Rattle.analysis_model.specs.Taint.{Register, Scratch, Byte}
 use Rattle.rv_decode.specs.Fields.{rd_of, rs1_of, rs2_of}
 use Rattle.taint_marks.specs.Marks.{Marks, mark_now}
@@ -17,11 +17,7 @@ pub record AreUnmarked (m : Marks) (word : ℕ) : Type 0 where
 abbrev pub NoneMarked : Marks → ℕ → ℕ → Type 0
 NoneMarked m address width = (a : ℕ) → address ≤ a → a < address + width → mark_now m (Byte a) ≡ 0
 
--- an access touches no marked byte and brings no mark from a device
-abbrev pub IsUnmarked : Marks → Access → Type 0
-IsUnmarked m Quiet = Unit {0}
-IsUnmarked m (Load address width value true mark) = mark ≡ 0
-IsUnmarked m (Load address width value false mark) = NoneMarked m address width
-IsUnmarked m (Store address width value true) = Unit {0}
-IsUnmarked m (Store address width value false) = NoneMarked m address width
-IsUnmarked m (Swap address old new) = NoneMarked m address 4
+-- an access touches no marked byte, and no device
+pub record IsUnmarked (m : Marks) (access : Access) : Type 0 where
+  pub in_ram : is_of_device access ≡ false
+  pub bytes : NoneMarked m (touched_from access) (touched_len access)
