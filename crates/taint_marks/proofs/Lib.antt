@@ -1,2 +1,3 @@
 mod MarkLaws
+mod CalmLaws
 mod StandsLaws

@@ -1,5 +1,5 @@
 -- Marks, as they are given and kept.
-use Rattle.std.proofs.Common.{◌≡◌, ◌≢◌, ℕ, zero, suc, ◌+◌, ◌-◌, ◌*◌, ◌^◌, ◌==◌, ◌<◌, ◌≤◌, ◌&&◌, not, min, max, Bool, true, false, cond, List, length, get_or, set, replicate, unwrap_or, Option, None, Some, refl, sym, ap, ◌∙◌, arith}
+use Rattle.std.proofs.Common.{◌≡◌, ◌≢◌, ℕ, zero, suc, ◌+◌, ◌-◌, ◌*◌, ◌^◌, ◌==◌, ◌<◌, ◌&&◌, not, min, max, Bool, true, false, cond, List, length, get_or, set, replicate, unwrap_or, Option, None, Some, refl, sym, ap, ◌∙◌, arith}
 use Rattle.std.specs.Prelude.{IfSome, IfNone}
 use Rattle.std.specs.Int.Bits.{bit_and, bit_or}
 use Rattle.std.specs.Option.{option_map}
@@ -14,9 +14,9 @@ use Rattle.analysis_model.specs.InRam.{least_in_ram}
 use Rattle.analysis_model.specs.Taint.{Place, Register, Scratch, Byte, IsPlace, Sources, register, is_general, is_marked, bytes_from, union_of, mark_of, mark_or, sources_in, writes_bytes}
 use Rattle.analysis_model.specs.Taint as model
 use Rattle.finding_tally.specs.Tallied.{Tallied}
-use Rattle.shadow_state.specs.Shade.{Shade, shade, has_byte, painted, IsLeast, NoneBetween}
+use Rattle.shadow_state.specs.Shade.{Shade, shade, has_byte, IsLeast, NoneBetween}
 use Rattle.shadow_state.proofs.LeastLaws.{Tests, searched_in_ram}
-use Rattle.shadow_state.proofs.PaintLaws.{painted-at, painted-same, length-painted_from}
+use Rattle.shadow_state.proofs.PaintLaws.{painted-at, length-painted_from}
 use Rattle.shadow_state.proofs.SizeLaws.{has_byte_of}
 use Rattle.taint_marks.specs.Marked.{given_stored, marked_by}
 use Rattle.taint_marks.specs.Marks.{Marks, mark_now, registers_with, shade_with, with_given}
@@ -133,24 +133,6 @@ bytes_more marks address width i mark less is =
     let next : address + (i + 1) ≡ address + i + 1 = omega arith in
     ap (bit_or (marks (Byte (address + i)))) (is ∙ ap (λ a. union_of marks (bytes_from a (width - (i + 1)))) next)
     ∙ ap (λ n. union_of marks (bytes_from (address + i) n)) (sym one)
-
--- four bytes without a mark
-module _ (m : Marks) (address : ℕ) (bytes : (a : ℕ) → shade m.shade a < 2 ^ 8) (none : NoneBetween m.shade 255 address (address + 4)) where
-  clear_at : (a : ℕ) → address ≤ a → a < address + 4 → shade m.shade a ≡ 0
-  clear_at a low high = omega (arith, and_mask (shade m.shade a) 8, bytes a, none a low high)
-
-  -- what is made of them has none
-  pub union_clear : (from width : ℕ) → address ≤ from → from + width ≤ address + 4 → union_of (mark_now m) (bytes_from from width) ≡ 0
-  union_clear from zero low high = refl
-  union_clear from (suc width) low high =
-      ap (λ v. bit_or v (union_of (mark_now m) (bytes_from (from + 1) width))) (clear_at from low (omega arith))
-      ∙ ap (bit_or 0) (union_clear (from + 1) width (omega arith) (omega arith)) ∙ or_nothing 0
-
-  -- and a paint without one leaves them
-  pub paint_clear : (width mark : ℕ) → width ≤ 4 → mark ≡ 0 → m ≡ record m { shade = painted m.shade address (address + width) mark }
-  paint_clear width mark few no_mark =
-      let same = painted-same m.shade address (address + width) mark (λ a covered. clear_at a (grind (arith, covered)) (grind (arith, covered, few)) ∙ sym no_mark) in
-      ap (λ s. record m { shade = s }) (sym same)
 
 -- at first nothing is marked
 pub zeros : (count n : ℕ) → ◌≡◌ {A = ℕ} (get_or (replicate count 0) n 0) 0

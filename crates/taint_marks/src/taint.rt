@@ -1,6 +1,6 @@
 //! The marks of registers, of mscratch and of RAM.
 ghost use Rattle.memory_map.specs.declared.TheConstants.{LEAST_RAM_KIB, MOST_RAM_KIB};
-ghost use Rattle.std.specs.Prelude.{◌≡◌, ℕ, ◌+◌, ◌*◌, ◌≤◌, ◌<◌, ◌^◌, not, min, List, [], ◌∷◌, ◌++◌, length, unwrap_or, IfOk, Option, None, Some};
+ghost use Rattle.std.specs.Prelude.{◌≡◌, ℕ, ◌+◌, ◌*◌, ◌≤◌, ◌<◌, ◌^◌, true, not, min, List, [], ◌∷◌, ◌++◌, length, unwrap_or, IfOk, Option, None, Some};
 ghost use Rattle.std.specs.Option.{option_map, option_or};
 ghost use Rattle.run_events.specs.declared.event.Event.{Event};
 ghost use Rattle.run_events.specs.declared.finding.Kind.TheVariants as kind;
@@ -13,6 +13,7 @@ ghost use Rattle.analysis_model.specs.Look.{finding_at};
 ghost use Rattle.analysis_model.specs.Made.{make_of};
 ghost use Rattle.analysis_model.specs.Taint.{Register, Byte, is_marked, is_marked_jump, bytes_from, loaded as sources_loaded, old_bytes, operands, mark_of, union_of, writes_as, writes_by, with_result as writes_with, no_writes, atomic_writes, csr_writes, scratch_writes, jump, leak, leaked};
 ghost use Rattle.rv_decode.specs.Listing.{instruction};
+ghost use Rattle.taint_marks.specs.Calm.{AreUnmarked, NoneMarked, IsUnmarked};
 ghost use Rattle.taint_marks.specs.Marked.{marked_by, given_result, given_stored};
 ghost use Rattle.taint_marks.specs.Marks.{Marks, Stands, make_now, guest_now, mark_now, with_given, after, registers_with, shade_with};
 
@@ -76,6 +77,11 @@ impl Watcher for Taint {
     fn see(&mut self, event: &Event) {
         self.take_in(event);
     }
+
+    #[inline(always)]
+    fn try_see(&mut self, event: &Event) -> bool {
+        self.is_calm(event)
+    }
 }
 
 impl Taint {
@@ -124,6 +130,61 @@ impl Taint {
             result.now ≡ kept (findings kind.Taint (guest_now self.now) h) }
     {
         self.found.kept()
+    }
+
+    // Whether the event announces nothing and there is no mark where it could read or write one, as with nearly each event
+    // of a guest that handles little marked input.
+    #[inline(always)]
+    fn is_calm(&self, event: &Event) -> bool
+        requires { Fits self.now.ram_kib event.now }
+        ensures { result ≡ true → after self.now event.now ≡ self.now }
+    {
+        match event {
+            Event::Exec {
+                word,
+                access,
+                told,
+                ..
+            } => {
+                Announcement::of(*word, *told).is_none()
+                    && self.names_no_mark(*word)
+                    && self.touches_no_mark(access)
+            }
+            Event::Dma { .. } => false,
+            Event::Irq { .. } | Event::Trap { .. } => true,
+        }
+    }
+
+    // Whether mscratch has no mark, nor has any register that a field of the word names, be it read, written or neither.
+    #[tactic(auto, using(crate::proofs::CalmLaws::AreUnmarked_joined))]
+    #[inline(always)]
+    fn names_no_mark(&self, word: u32) -> bool
+        ensures { result ≡ true → AreUnmarked self.now word }
+    {
+        let rd = self.register(word >> 7 & 31);
+        let rs1 = self.register(word >> 15 & 31);
+        let rs2 = self.register(word >> 20 & 31);
+        rd | rs1 | rs2 | self.scratch == 0
+    }
+
+    // Whether the access is to no device and touches no marked byte.
+    #[inline(always)]
+    fn touches_no_mark(&self, access: &Access) -> bool
+        requires { AccessFits self.now.ram_kib access.now }
+        ensures { result ≡ true → IsUnmarked self.now access.now }
+    {
+        match *access {
+            Access::Quiet => true,
+            _ => !access.is_of_device() && self.is_unmarked(access.touched_from()),
+        }
+    }
+
+    // Whether none of at most four bytes from an address on has a mark.
+    #[inline(always)]
+    fn is_unmarked(&self, address: u32) -> bool
+        ensures { result ≡ true → (width : ℕ) → width ≤ 4 → NoneMarked self.now address width }
+    {
+        self.shadow.is_clear(address, u8::MAX)
     }
 
     // Nearly each instruction has nothing to find, and only moves marks.
@@ -416,7 +477,7 @@ impl Taint {
         requires within { InRam (1024 * self.now.ram_kib) address width }
         ensures { result ≡ union_of (mark_now self.now) (bytes_from address width) }
     {
-        if self.shadow.is_clear(address, u8::MAX) {
+        if self.is_unmarked(address) {
             0
         } else {
             self.union_of(address, width)
@@ -484,7 +545,7 @@ impl Taint {
         requires { width ≤ 4 }
         ensures { self.new ≡ record self.old { shade = shade_with self.old.shade address width (Some mark) } }
     {
-        if mark != 0 || !self.shadow.is_clear(address, u8::MAX) {
+        if mark != 0 || !self.is_unmarked(address) {
             self.paint(address, width, mark);
         }
     }

@@ -1,10 +1,8 @@
-use Rattle.std.proofs.Common.{◌≡◌, ◌+◌, subst, arith}
-use Rattle.shadow_state.specs.Shade.{painted}
-use Rattle.taint_marks.specs.Marks.{Marks}
-use Rattle.taint_marks.proofs.MarkLaws.{paint_clear}
+use Rattle.std.proofs.Common.{Some, sym, ap, arith}
+use Rattle.taint_marks.proofs.CalmLaws.{shade_same}
 use Rattle.taint_marks.proofs.taint.Taint.put_bytes.Goals as goal
 
-pub returns-else-not-is_clear : goal.returns-else-not-is_clear
-returns-else-not-is_clear c =
-    let P : Marks → Type 0 = λ m. m ≡ record m { shade = painted m.shade c.args.address (c.args.address + c.args.width) c.args.mark } in
-    subst P c.self.view_is (paint_clear _ c.args.address c.is_clear.ensures.bytes (c.is_clear.ensures.clear c.if-not-is_clear.false) c.args.width c.args.mark c.requires (omega (arith, c.if-mark-ne0.false)))
+pub returns-else-not-is_unmarked : goal.returns-else-not-is_unmarked
+returns-else-not-is_unmarked c =
+    let none = c.is_unmarked.ensures c.if-not-is_unmarked.false c.args.width c.requires in
+    ap (λ s. record c.args.self.now { shade = s }) (sym (shade_same c.args.self.now c.args.address c.args.width (Some c.args.mark) (omega (arith, c.if-mark-ne0.false), none)))
