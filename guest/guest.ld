@@ -19,6 +19,11 @@ SECTIONS
 
     .data : {
         *(.rodata .rodata.* .srodata .srodata.*)
+        . = ALIGN(4);
+        __init_array_start = .;
+        KEEP(*(SORT_BY_INIT_PRIORITY(.init_array.*)))
+        KEEP(*(.init_array))
+        __init_array_end = .;
         *(.data .data.* .sdata .sdata.*)
         . = ALIGN(8);
     } :data
