@@ -45,6 +45,7 @@ SECTIONS
     .noinit (NOLOAD) : { *(.noinit .noinit.*) . = ALIGN(16); } :data
 
     .stack (NOLOAD) : {
+        __stack_bottom = .;
         . += DEFINED(__stack_size) ? __stack_size : 16K;
         __stack_top = .;
     } :data

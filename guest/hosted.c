@@ -15,6 +15,7 @@
 #include "allocator.h"
 
 enum { END_OF_INPUT = 4 };  /* a serial line has no end: this byte is the end of standard input */
+enum { RED_ZONE = 16, STACK_GUARD = 256 };
 enum { SIGNALLED = 64 };    /* the status of a run that a signal ended is this and its number: 70 where it was abort's */
 
 static int put(char byte, FILE *stream) {
@@ -146,7 +147,15 @@ int kill(pid_t process, int signal) {
     _exit(SIGNALLED + signal);
 }
 
-/* Linked with --wrap=main: constructors, a word for main to find its name in, and what atexit left to be done. */
+/* The last bytes of the stack, as a block that was given back: so a stack that is too small is a finding of `heap`. */
+static void guard_stack(void) {
+    extern uint8_t __stack_bottom[];
+    uint8_t *last = __stack_bottom + RED_ZONE;
+    announce_allocated(last, STACK_GUARD);
+    announce_freed(last, STACK_GUARD);
+}
+
+/* Linked with --wrap=main: a guarded stack, constructors, main's name as its one word, and what atexit left to be done. */
 typedef void constructor(void);
 extern constructor *const __init_array_start[], *const __init_array_end[];
 int __real_main(int count, char **words);
@@ -154,6 +163,7 @@ int __real_main(int count, char **words);
 int __wrap_main(void) {
     static char name[] = "guest";
     static char *words[] = {name, NULL};
+    guard_stack();
     for (constructor *const *place = __init_array_start; place != __init_array_end; place++)
         (*place)();
     exit(__real_main(1, words));
