@@ -4,7 +4,13 @@
 
 #include "aftersight.h"
 
-enum { HEAP_BYTES = 32 * 1024, MOST_BLOCKS = 256, GAP = 16 };
+#ifndef HEAP_BYTES /* both may be given to the compiler: -DHEAP_BYTES=1048576 -DMOST_BLOCKS=4096 */
+#define HEAP_BYTES (32 * 1024)
+#endif
+#ifndef MOST_BLOCKS
+#define MOST_BLOCKS 256
+#endif
+enum { GAP = 16 };
 
 struct block {
     uint32_t from, bytes;

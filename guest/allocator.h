@@ -1,4 +1,4 @@
-/* A heap of 32 KiB that announces its blocks. */
+/* A heap that announces its blocks: of 32 KiB and at most 256 blocks, where the build does not say otherwise. */
 #ifndef ALLOCATOR_H
 #define ALLOCATOR_H
 

@@ -19,6 +19,11 @@ SECTIONS
 
     .data : {
         *(.rodata .rodata.* .srodata .srodata.*)
+        . = ALIGN(4);
+        __init_array_start = .;
+        KEEP(*(SORT_BY_INIT_PRIORITY(.init_array.*)))
+        KEEP(*(.init_array))
+        __init_array_end = .;
         *(.data .data.* .sdata .sdata.*)
         . = ALIGN(8);
     } :data
@@ -40,6 +45,7 @@ SECTIONS
     .noinit (NOLOAD) : { *(.noinit .noinit.*) . = ALIGN(16); } :data
 
     .stack (NOLOAD) : {
+        __stack_bottom = .;
         . += DEFINED(__stack_size) ? __stack_size : 16K;
         __stack_top = .;
     } :data
