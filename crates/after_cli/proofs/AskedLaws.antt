@@ -1,5 +1,5 @@
 -- What words ask of a run is what a run may be asked for.
-use Rattle.std.proofs.Common.{ℕ, zero, suc, ◌<◌, List, [], ◌∷◌, length, arith}
+use Rattle.std.proofs.Common.{zero, suc, List, [], ◌∷◌, arith}
 use Rattle.std.specs.List.{All, AllByRecursion}
 
 -- what holds at each place holds of each item

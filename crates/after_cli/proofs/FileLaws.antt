@@ -1,13 +1,12 @@
 -- Files that tell what they are give one answer.
-use Rattle.std.proofs.Common.{◌≡◌, ℕ, ◌<◌, ◌≤◌, List, [], Option, Some, None, Result, Ok, Err, refl, sym, ap, subst, ◌∙◌, arith, inl, inr}
-use Rattle.std.specs.Prelude.{IsSome}
+use Rattle.std.proofs.Common.{◌≡◌, ℕ, List, Option, Some, None, Result, Err, refl, sym, ap, ◌∙◌, inl, inr}
 use Rattle.after_edge.specs.Fault.{Rose}
 use Rattle.after_edge.specs.Files.{Contents}
 use Rattle.run_inputs.specs.declared.fault.InputFault.{InputFault}
 use Rattle.run_inputs.specs.declared.fault.InputFault.TheVariants as fault
 use Rattle.run_inputs.specs.Faults.{HasCause}
 use Rattle.run_inputs.specs.Files.{Names, AreFound, IsDiskFound, Comes}
-use Rattle.run_inputs.specs.Given.{Found, Given, Refusal, Absent, ImageTooLong, ScriptTooLong, DiskTooLong, BadImage, BadScript, inputs_in}
+use Rattle.run_inputs.specs.Given.{Found, Refusal, Absent, ImageTooLong, ScriptTooLong, DiskTooLong, BadImage, BadScript}
 use Rattle.refusals.specs.Status.{input_status}
 use Rattle.after_cli.specs.Exact.{disk_in, found_in, refused_status}
 

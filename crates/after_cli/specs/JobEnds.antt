@@ -1,7 +1,6 @@
 -- What each end of a job's run means.
 use Rattle.std.specs.Prelude.{◌≡◌, ◌⊎◌, ℕ, List, ◌++◌, length, take}
 use Rattle.list_laws.specs.Prefix.{IsPrefix}
-use Rattle.after_edge.specs.Fault.{Rose}
 use Rattle.after_edge.specs.Sink.{Telling, Adds, Writes, WritesPart}
 use Rattle.job_model.specs.Job.{Job, released_bytes}
 use Rattle.job_model.specs.Text.{report, text, status}

@@ -1,8 +1,6 @@
 -- What the reads of a run's files say together.
-use Rattle.std.proofs.Common.{◌≡◌, ℕ, ◌<◌, ◌≤◌, inl, inr, List, [], length, Option, Some, None, Result, Ok, Err, refl, sym, subst, arith, cond, ltb}
-use Rattle.std.specs.Prelude.{IsSome}
+use Rattle.std.proofs.Common.{◌≡◌, ℕ, ◌<◌, ◌≤◌, inl, inr, List, length, Option, Some, None, Result, Ok, Err, refl, sym, subst}
 use Rattle.std.proofs.lemmas.Bool.{cases_lt, lt-ltb, le-ltb}
-use Rattle.after_edge.specs.Fault.{Rose}
 use Rattle.format_model.specs.ScriptReading.{◌>>=◌}
 use Rattle.after_edge.specs.Files.{Contents}
 use Rattle.after_edge.proofs.FaultLaws.{Rose-later}
@@ -10,7 +8,7 @@ use Rattle.run_inputs.specs.declared.fault.InputFault.{InputFault}
 use Rattle.run_inputs.specs.declared.fault.InputFault.TheVariants as fault
 use Rattle.run_inputs.specs.Faults.{HasCause}
 use Rattle.run_inputs.specs.Files.{Names, IsFound, IsDiskFound, Comes}
-use Rattle.run_inputs.specs.Given.{Bytes, Refusal, Absent, ImageTooLong, ScriptTooLong, DiskTooLong, image_max, script_max, disk_max, file_in, bytes_in}
+use Rattle.run_inputs.specs.Given.{Bytes, Refusal, ImageTooLong, ScriptTooLong, DiskTooLong, image_max, script_max, disk_max, file_in, bytes_in}
 use Rattle.run_inputs.specs.Read.{HasFailed, IsLong, IsRefused, IsDiskRefused}
 use Rattle.run_inputs.proofs.FoundLaws.{some_found, some_disk}
 

@@ -1,5 +1,5 @@
 -- The faults of a run's files, and the cause of each.
-use Rattle.std.specs.Prelude.{◌≡◌, ◌⊎◌, ℕ, ◌≤◌, Option, Some, None, IsSome, Result, Ok, Err}
+use Rattle.std.specs.Prelude.{◌≡◌, ◌⊎◌, ℕ, Option, Some, None, IsSome, Result, Err}
 use Rattle.after_edge.specs.Fault.{Rose}
 use Rattle.after_edge.specs.Files.{Contents}
 use Rattle.elf_image.specs.declared.fault.ImageFault.{ImageFault}

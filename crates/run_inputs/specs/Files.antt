@@ -1,6 +1,5 @@
 -- The files that a run names, as far as the outside tells what they are.
-use Rattle.std.specs.Prelude.{◌≡◌, ◌⊎◌, ℕ, List, [], Option, Some, None, IsSome, Result, Ok, Err}
-use Rattle.after_edge.specs.Fault.{Rose}
+use Rattle.std.specs.Prelude.{◌≡◌, ℕ, List, [], Option, Some, None, Result}
 use Rattle.after_edge.specs.Files.{Contents, IfTold}
 use Rattle.run_inputs.specs.Given.{Found, Refusal}
 

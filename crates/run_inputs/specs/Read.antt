@@ -1,5 +1,5 @@
 -- What the readers of a run's files answer.
-use Rattle.std.specs.Prelude.{◌≡◌, ◌⊎◌, ℕ, ◌<◌, ◌≤◌, List, length, Option, Some, None, IsSome, Result, Ok, Err}
+use Rattle.std.specs.Prelude.{◌≡◌, ◌⊎◌, ℕ, ◌<◌, List, length, Option, Some, None, IsSome, Result, Ok, Err}
 use Rattle.after_edge.specs.Fault.{Rose}
 use Rattle.after_edge.specs.Files.{Contents}
 use Rattle.format_model.specs.ImageFile as image_model

@@ -1,10 +1,8 @@
 use Rattle.std.proofs.Common.{◌+◌, arith, take}
 use Rattle.std.specs.List.{flat_map}
-use Rattle.list_laws.specs.Prefix.{IsPrefix}
-use Rattle.after_edge.specs.Sink.{Writes, WritesPart}
 use Rattle.after_edge.proofs.SinkLaws.{Writes-same, Writes-then, WritesPart-prefix, WritesPart-same, WritesPart-then}
 use Rattle.analysis_model.specs.Report.{part_text}
-use Rattle.job_model.specs.Job.{Job, events, guest}
+use Rattle.job_model.specs.Job.{events, guest}
 use Rattle.after_cli.proofs.ReportLaws.{tells_of, same_count, parts_front, parts_next}
 use Rattle.after_cli.proofs.running.report_parts.Goals as goal
 
