@@ -36,7 +36,8 @@ fn report_parts<O: Sink>(closing: &Closing, count: u32, out: &mut O) -> Result<(
     ensures ok { OnOk result ((job : Job) → IsWholeRun job closing.now →
         Writes O.told out.old out.new (flat_map (part_text (guest job) (events job)) job.kinds)) }
     ensures err { OnErr result ((job : Job) → IsWholeRun job closing.now →
-        WritesPart O.told out.old out.new (flat_map (part_text (guest job) (events job)) job.kinds)) }
+        WritesPart O.told out.old out.new
+        (flat_map (part_text (guest job) (events job)) job.kinds)) }
 {
     for replica in 0..count {
         match report_part(closing.analysis(replica), out) {
@@ -55,10 +56,12 @@ fn write_report<O: Sink>(
     out: &mut O,
 ) -> Result<(), Failed>
     requires { IsOver count closing.now }
-    ensures ok { OnOk result ((job : Job) → IsWholeRun job closing.now → Writes O.told out.old out.new
-        (head_text (facts_of facts.now) ++ flat_map (part_text (guest job) (events job)) job.kinds)) }
-    ensures err { OnErr result ((job : Job) → IsWholeRun job closing.now → WritesPart O.told out.old out.new
-        (head_text (facts_of facts.now) ++ flat_map (part_text (guest job) (events job)) job.kinds)) }
+    ensures ok { OnOk result ((job : Job) → IsWholeRun job closing.now →
+        Writes O.told out.old out.new (head_text (facts_of facts.now)
+        ++ flat_map (part_text (guest job) (events job)) job.kinds)) }
+    ensures err { OnErr result ((job : Job) → IsWholeRun job closing.now →
+        WritesPart O.told out.old out.new (head_text (facts_of facts.now)
+        ++ flat_map (part_text (guest job) (events job)) job.kinds)) }
 {
     match report_head(facts, out) {
         Ok(()) => {}
@@ -98,7 +101,8 @@ fn status_number(end: EndCause, found: bool) -> u8
 // Writes the report of a run that went to its end. It answers the status.
 fn tell<O: Sink>(closing: &Closing, count: u32, out: &mut O) -> Result<u8, Failed>
     requires { IsOver count closing.now }
-    ensures status { IfOk result (λ number. (job : Job) → IsWholeRun job closing.now → number ≡ status job) }
+    ensures status { IfOk result (λ number. (job : Job) → IsWholeRun job closing.now →
+        number ≡ status job) }
     ensures ok { OnOk result ((job : Job) → IsWholeRun job closing.now →
         Writes O.told out.old out.new (report job)) }
     ensures err { OnErr result ((job : Job) → IsWholeRun job closing.now →

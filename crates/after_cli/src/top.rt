@@ -80,7 +80,8 @@ fn answer_run<F: Files, O: Sink>(
 ) -> Answer
     requires { IsSoundRun (run_said run.now) }
     ensures means { (words : List (List ℕ)) → IsAsked words (run_said run.now) →
-        Means (F.content files.old) words (F.faults files.old) (F.faults files.new) O.told out.old out.new result }
+        Means (F.content files.old) words (F.faults files.old) (F.faults files.new)
+        O.told out.old out.new result }
     ensures same { F.content files.new ≡ F.content files.old }
 {
     let inputs = match read_inputs(alloc, files, run.image, run.script, run.disk, run.ram_kib) {
@@ -167,7 +168,8 @@ fn end_answer<E: Sink>(answer: Answer, err: &mut E) -> Outcome
 /// What is wrong with words of which one is no text, by the words before it: the first of them that is bad by itself, or
 /// else the one that is no text.
 pub fn refusal_before(words: &[String]) -> Refusal
-    ensures { result ≡ Refusal.Words (Word (unwrap_or (first_bad_in (map string_bytes words.now)) (length words.now + 1))) }
+    ensures { result ≡ Refusal.Words
+        (Word (unwrap_or (first_bad_in (map string_bytes words.now)) (length words.now + 1))) }
 {
     let number = match first_bad_before(words) {
         Some(number) => number,
@@ -219,7 +221,8 @@ pub fn aftersight_plain<F: Files, O: Sink, E: Sink>(
     // Where the files tell what they are, and neither they nor the output fail, it comes to what the definitions say of the
     // words and the files, or to want of memory.
     ensures exact { (told : Contents) → F.content files.old ≡ Some told
-        → ¬ Rose (F.faults files.old) (F.faults files.new) → ¬ Rose (O.told.faults out.old) (O.told.faults out.new)
+        → ¬ Rose (F.faults files.old) (F.faults files.new)
+        → ¬ Rose (O.told.faults out.old) (O.told.faults out.new)
         → IsRight O.told out.old out.new result told (job_in (map string_bytes words.now)) }
 
     // Words alone decide on these two.

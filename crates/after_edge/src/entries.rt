@@ -32,7 +32,8 @@ pub(crate) fn room_at(
     bytes: usize,
 ) -> Result<(), NoMemory>
     ensures ok { OnOk result (entries.new.items
-        ≡ changed_or_added (with_room bytes) (with_no_file name.now bytes) name.now entries.old.items) }
+        ≡ changed_or_added (with_room bytes) (with_no_file name.now bytes) name.now
+        entries.old.items) }
     ensures within { HasRoom (entry_of entries.old.items name.now) bytes → IsOk result }
     ensures err { OnErr result (entries.new.items ≡ entries.old.items) }
 {
@@ -53,8 +54,10 @@ pub(crate) fn set_at(
     bytes: &[u8],
 ) -> Result<(), NoMemory>
     ensures ok { OnOk result (entries.new.items
-        ≡ changed_or_added (filled bytes.now) (filled bytes.now (with_no_file name.now 0)) name.now entries.old.items) }
-    ensures within { HasRoom (entry_of entries.old.items name.now) (length bytes.now) → IsOk result }
+        ≡ changed_or_added (filled bytes.now) (filled bytes.now (with_no_file name.now 0)) name.now
+        entries.old.items) }
+    ensures within { HasRoom (entry_of entries.old.items name.now) (length bytes.now)
+        → IsOk result }
     ensures err { OnErr result (entries.new.items ≡ entries.old.items) }
 {
     match place(entries, name) {

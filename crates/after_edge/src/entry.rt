@@ -21,7 +21,11 @@ pub(crate) struct Entry {
 impl Model for Entry {
     ghost Value = { Kept };
 
-    ghost view = { λ e. record { name = string_bytes e.name; file = (if e.present then Some e.bytes.items else None); room = e.room } };
+    ghost view = { λ e. record {
+      name = string_bytes e.name;
+      file = (if e.present then Some e.bytes.items else None);
+      room = e.room;
+    } };
 
     ghost invariant = { λ e. (vec_len e.bytes ≤ e.room) × (e.room ≤ vec_capacity e.bytes) };
 }

@@ -75,7 +75,8 @@ impl<'a, R: std::rt::Files> Files for StdFiles<'a, R> {
     /// The count rises exactly where this fails.
     fn read(&mut self, name: &str, at: u64, buf: &mut [u8]) -> Result<usize, ReadFault>
         ensures within { IfOk result (λ count. count ≤ length buf.new) }
-        ensures read { IfOk result (λ count. IfTold untold (λ files. Reads files name.now at count (take count buf.new))) }
+        ensures read { IfOk result
+            (λ count. IfTold untold (λ files. Reads files name.now at count (take count buf.new))) }
         ensures cause { HasReadCause untold name.now self.old.faults self.new.faults result }
         ensures once { Counted (is_err result) self.old.faults self.new.faults }
         ensures same { untold ≡ untold }

@@ -38,10 +38,13 @@ impl<W: Write + Drop> Sink for StdSink<W> {
 
     /// Writes the whole piece and flushes. The count rises exactly where that fails.
     fn put(&mut self, piece: &[u8]) -> Result<(), Failed>
-        ensures ok { OnOk result (Writes (record { holds = HoldsAny; faults = λ s. s.faults }) self.old self.new piece.now) }
-        ensures err { OnErr result (WritesPart (record { holds = HoldsAny; faults = λ s. s.faults }) self.old self.new piece.now) }
+        ensures ok { OnOk result (Writes
+            (record { holds = HoldsAny; faults = λ s. s.faults }) self.old self.new piece.now) }
+        ensures err { OnErr result (WritesPart
+            (record { holds = HoldsAny; faults = λ s. s.faults }) self.old self.new piece.now) }
         ensures counted { Counted (is_err result) self.old.faults self.new.faults }
-        ensures written { OnOk result (Appends (W.contents self.old.writer) (W.contents self.new.writer) piece.now) }
+        ensures written { OnOk result
+            (Appends (W.contents self.old.writer) (W.contents self.new.writer) piece.now) }
     {
         match write_through(&mut self.writer, piece) {
             Ok(()) => Ok(()),

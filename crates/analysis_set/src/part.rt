@@ -19,7 +19,8 @@ pub fn report_part<O: Sink>(analysis: &AnyAnalysis, out: &mut O) -> Result<(), F
     ensures ok { OnOk result ((h : List Event) → HasSeen analysis.now h →
         Writes O.told out.old out.new (part_made (kib_of analysis.now) (made_of analysis.now) h)) }
     ensures err { OnErr result ((h : List Event) → HasSeen analysis.now h →
-        WritesPart O.told out.old out.new (part_made (kib_of analysis.now) (made_of analysis.now) h)) }
+        WritesPart O.told out.old out.new
+        (part_made (kib_of analysis.now) (made_of analysis.now) h)) }
 {
     let kind = analysis.kind();
     let counted = lines::findings(kind, analysis.count(), analysis.first());
@@ -39,7 +40,8 @@ fn put_more<O: Sink>(analysis: &AnyAnalysis, out: &mut O) -> Result<(), Failed>
     ensures ok { OnOk result ((h : List Event) → HasSeen analysis.now h →
         Writes O.told out.old out.new (more_made (kib_of analysis.now) (made_of analysis.now) h)) }
     ensures err { OnErr result ((h : List Event) → HasSeen analysis.now h →
-        WritesPart O.told out.old out.new (more_made (kib_of analysis.now) (made_of analysis.now) h)) }
+        WritesPart O.told out.old out.new
+        (more_made (kib_of analysis.now) (made_of analysis.now) h)) }
 {
     match analysis {
         AnyAnalysis::Calls(calls) => out.put(lines::unmatched(calls.unmatched()).as_bytes()),
@@ -84,7 +86,8 @@ fn shown_range(coverage: &Coverage, index: u64) -> Line
     requires there { index < length (ranges_now coverage.now) }
     requires shown { index < 64 }
     ensures { result
-        ≡ range_line (slice_index_or (take 64 (ranges_now coverage.now)) index (record { from = 0; to = 0 })) }
+        ≡ range_line (slice_index_or (take 64 (ranges_now coverage.now)) index
+        (record { from = 0; to = 0 })) }
 {
     let (from, to) = coverage.range(index);
     lines::range(from, to)

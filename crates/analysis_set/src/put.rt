@@ -29,8 +29,10 @@ pub(crate) fn put_findings<O: Sink>(
     found: &[Finding],
     out: &mut O,
 ) -> Result<(), Failed>
-    ensures ok { OnOk result (Writes O.told out.old out.new (flat_map (finding_line kind) found.now)) }
-    ensures err { OnErr result (WritesPart O.told out.old out.new (flat_map (finding_line kind) found.now)) }
+    ensures ok { OnOk result
+        (Writes O.told out.old out.new (flat_map (finding_line kind) found.now)) }
+    ensures err { OnErr result
+        (WritesPart O.told out.old out.new (flat_map (finding_line kind) found.now)) }
 {
     for finding in found {
         match out.put(lines::finding(kind, finding).as_bytes()) {

@@ -69,7 +69,8 @@ fn take_next<'a>(
     ensures next { IfOk result (λ next. (before : List Role) → Holds before draft.old
         → Advances command (map string_bytes words.now) before index next draft.new) }
     ensures refused { IfErr result (λ fault. (before : List Role) → Holds before draft.old
-        → Refuses command before (roles (index + 2) None (drop index (map string_bytes words.now))) fault) }
+        → Refuses command before
+        (roles (index + 2) None (drop index (map string_bytes words.now))) fault) }
 {
     let number = index as u32 + 2;
     let word = word_at(words, index);

@@ -21,7 +21,12 @@ impl Model for Segment {
 
     ghost Value = { Range };
 
-    ghost view = { λ s. record { address = s.address; bytes = s.bytes.items; size = s.size; executable = s.executable } };
+    ghost view = { λ s. record {
+      address = s.address;
+      bytes = s.bytes.items;
+      size = s.size;
+      executable = s.executable;
+    } };
 }
 
 impl Segment {

@@ -29,7 +29,11 @@ impl Model for Draft {
 
     ghost Value = { SoFar };
 
-    ghost view = { λ d. record { clock = d.clock; sectors = d.sectors.items; entries = d.entries.items } };
+    ghost view = { λ d. record {
+      clock = d.clock;
+      sectors = d.sectors.items;
+      entries = d.entries.items;
+    } };
 }
 
 fn last_step(entries: &[Entry]) -> u32

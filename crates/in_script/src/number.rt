@@ -28,7 +28,8 @@ fn leads_with_zero(digits: &[u8]) -> bool
 
 // The value of digits, where it fits.
 fn value_of(digits: &[u8]) -> Option<u32>
-    ensures { MatchOption result (2 ^ 32 ≤ value_of digits.now) (λ value. value ≡ value_of digits.now) }
+    ensures { MatchOption result (2 ^ 32 ≤ value_of digits.now)
+        (λ value. value ≡ value_of digits.now) }
 {
     let mut value = 0u64;
     for digit in digits {

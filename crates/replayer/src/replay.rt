@@ -57,9 +57,11 @@ impl Replay {
         ensures answer { result ≡ answer_of (fault_of self.new) }
         ensures replays { (start : State) (before : List Item) → Replays start before self.old
             → Replays start (item.now ∷ before) self.new }
-        ensures shown { (start : State) (before : List Item) (h : List Shown) → Replays start before self.old
+        ensures shown { (start : State) (before : List Item) (h : List Shown)
+            → Replays start before self.old
             → W.has_seen seen.old (h ++ shown_by hart start (outcome hart start before))
-            → W.has_seen seen.new (h ++ shown_by hart start (outcome hart start (item.now ∷ before))) }
+            → W.has_seen seen.new
+            (h ++ shown_by hart start (outcome hart start (item.now ∷ before))) }
         ensures diverged { IsTrue (is_some (fault_of self.old)) → self.new ≡ self.old }
         ensures still { IsTrue (is_some (fault_of self.old)) → seen.new ≡ seen.old }
         ensures takes { takes_of self.new ≡ takes_after (takes_of self.old) (fault_of self.new) }

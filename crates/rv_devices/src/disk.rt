@@ -108,7 +108,8 @@ impl Disk {
     /// Whether it raises the external line.
     pub fn line(&self) -> bool
         ensures { result
-            ≡ (nat_le 2 (model.status_of (activity_of self.now.activity self.now.pending)) && self.now.control == 1) }
+            ≡ (nat_le 2 (model.status_of (activity_of self.now.activity self.now.pending))
+            && self.now.control == 1) }
     {
         self.status() >= 2 && self.control == 1
     }
@@ -143,10 +144,12 @@ impl Disk {
     /// A store to the status.
     pub fn acknowledge(&mut self)
         ensures sending { self.new.sending ≡ self.old.sending }
-        ensures quiet { (step : ℕ) → NotBefore step self.old.activity → NotBefore step self.new.activity }
+        ensures quiet { (step : ℕ) → NotBefore step self.old.activity
+            → NotBefore step self.new.activity }
         ensures serves { (script : Script) (words : List DmaWord) (state : BoardState)
             → Serves script words state self.old
-            → Serves script words (record state { activity = model.acknowledged state.activity }) self.new }
+            → Serves script words
+            (record state { activity = model.acknowledged state.activity }) self.new }
     {
         match self.activity {
             Activity::Busy { .. } => {}
@@ -157,7 +160,8 @@ impl Disk {
     // Whether a disk that is not busy accepts a command.
     fn accepts(&self, command: u32, ram: &Ram) -> bool
         ensures { result
-            ≡ model.is_accepted (length ram.now) (model.sector_count self.now.bytes.items) command self.now.sector self.now.address }
+            ≡ model.is_accepted (length ram.now) (model.sector_count self.now.bytes.items)
+            command self.now.sector self.now.address }
     {
         (command == 1 || command == 2)
             && ((self.sector as usize) < self.count()
@@ -173,7 +177,8 @@ impl Disk {
         ensures address { self.new.address ≡ self.old.address }
         ensures control { self.new.control ≡ self.old.control }
         ensures sending { self.new.sending ≡ self.old.sending }
-        ensures kept { self.new.pending.bytes ≡ take 512 (drop (512 * self.old.sector) self.old.bytes.items) }
+        ensures kept { self.new.pending.bytes
+            ≡ take 512 (drop (512 * self.old.sector) self.old.bytes.items) }
         ensures sent { self.new.pending.sent ≡ 0 }
         ensures to { self.new.pending.address ≡ self.old.address }
         ensures busy { self.new.activity ≡ Activity.Busy before }
@@ -198,7 +203,8 @@ impl Disk {
         requires sector { self.old.sector < model.sector_count self.old.bytes.items }
         requires held { InRam (length ram.now) self.old.address 512 }
         ensures bytes { self.new.bytes.items
-            ≡ placed self.old.bytes.items (512 * self.old.sector) (take 512 (drop (self.old.address - RAM_START) ram.now)) }
+            ≡ placed self.old.bytes.items (512 * self.old.sector)
+            (take 512 (drop (self.old.address - RAM_START) ram.now)) }
         ensures sectors { self.new.sectors.items ≡ self.old.sectors.items }
         ensures sector { self.new.sector ≡ self.old.sector }
         ensures address { self.new.address ≡ self.old.address }

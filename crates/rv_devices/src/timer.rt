@@ -46,7 +46,8 @@ impl Timer {
     /// Goes on to where so many steps have begun.
     #[inline]
     pub fn pass(&mut self, begun: u64)
-        ensures passes { 1 ≤ self.old.clock → begun ≤ 2 ^ 32 → self.old.rise ≤ 2 ^ 32 + self.old.clock
+        ensures passes { 1 ≤ self.old.clock → begun ≤ 2 ^ 32
+            → self.old.rise ≤ 2 ^ 32 + self.old.clock
             → self.new ≡ passed self.old begun }
         ensures compare { self.new.compare ≡ self.old.compare }
     {

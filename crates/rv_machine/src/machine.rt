@@ -272,7 +272,8 @@ impl Recorder for Machine {
 
 // Writes a word of the disk to RAM. The disk has none for another place.
 fn write_word(cpu: &mut Cpu, word: &DmaWord)
-    ensures word { IsTrue (holds_word cpu.old word.now.address) → (touch cpu.old word.now).1 ≡ cpu.new }
+    ensures word { IsTrue (holds_word cpu.old word.now.address)
+        → (touch cpu.old word.now).1 ≡ cpu.new }
     ensures step { cpu.new.step ≡ cpu.old.step }
     ensures size { length cpu.new.ram ≡ length cpu.old.ram }
 {
@@ -288,7 +289,8 @@ fn store_access(board: &mut Board, access: &Access, ram: &Ram)
     requires ram { length ram.now ≤ 2 ^ 24 }
     ensures stands { (script : Outside) (step : ℕ) (words : List Written) (state : BoardState)
         → Stands script (step + 1) words state board.old
-        → Stands script (step + 1) words (after_access script step ram.now state access.now) board.new }
+        → Stands script (step + 1) words
+        (after_access script step ram.now state access.now) board.new }
     ensures begun { steps_begun board.new ≡ steps_begun board.old }
     ensures left { words_due board.new ≡ words_due board.old }
 {
@@ -314,7 +316,8 @@ fn store_outside(board: &mut Board, event: &Event, ram: &Ram)
     requires ram { length ram.now ≤ 2 ^ 24 }
     ensures stands { (script : Outside) (step : ℕ) (words : List Written) (state : BoardState)
         → Stands script (step + 1) words state board.old
-        → Stands script (step + 1) words (after_event script step ram.now state event.now) board.new }
+        → Stands script (step + 1) words
+        (after_event script step ram.now state event.now) board.new }
     ensures begun { steps_begun board.new ≡ steps_begun board.old }
     ensures left { words_due board.new ≡ words_due board.old }
 {

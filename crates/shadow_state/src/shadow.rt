@@ -153,7 +153,8 @@ fn paint_bytes(bytes: &mut [u8], from: u64, to: u64, value: u8)
 fn fill(bytes: &mut [u8], start: usize, end: usize, value: u8)
     requires ordered { start ≤ end }
     requires within { end ≤ length bytes.old }
-    ensures { bytes.new ≡ take start bytes.old ++ (replicate (end - start) value ++ drop end bytes.old) }
+    ensures { bytes.new ≡ take start bytes.old
+        ++ (replicate (end - start) value ++ drop end bytes.old) }
 {
     bytes[start..end].fill(value);
 }
