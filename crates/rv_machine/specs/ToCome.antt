@@ -64,6 +64,10 @@ pub record Awaits (phase : Phase) (left lines : ℕ) (s : State) (b : Board) (it
 abbrev pub ToCome : Machine → List Item → Type 0
 ToCome m items = Awaits m.phase m.left m.lines m.cpu m.board items
 
+-- so many steps are done
+abbrev pub steps_of : Machine → ℕ
+steps_of m = m.cpu.step
+
 -- a bound on the number of items to come, which falls with each item
 abbrev pub to_do : Machine → ℕ
 to_do m = items_left m.phase m.left (words_due m.board)

@@ -62,7 +62,7 @@ fn start(alloc: Global, image: &Image, ram_kib: u32) -> Result<Cpu, NoMemory>
 
 impl Machine {
     ghost use Rattle.any_machine.specs.Recording.{Advances, Falls};
-    ghost use Rattle.rv_machine.specs.ToCome.{Found, ToCome, Turned, recording};
+    ghost use Rattle.rv_machine.specs.ToCome.{Found, ToCome, Turned, recording, steps_of};
 
     /// The guest of an image at step 0, beside the board of this script and this disk file, which will be run for at most
     /// `limit` steps. RAM has 64 to 16,384 KiB, the disk file at most 16 MiB. It is the only call that takes memory.
@@ -101,7 +101,7 @@ impl Machine {
         ensures next { (items : List Item) → ToCome self.old items
             → Advances recording items self.new result }
         ensures falls { Falls recording self.old self.new result }
-        ensures few { self.new.cpu.step ≤ self.old.cpu.step + 256 }
+        ensures few { steps_of self.new ≤ steps_of self.old + 256 }
     {
         match self.phase {
             Phase::Over => Advance::Ended,
