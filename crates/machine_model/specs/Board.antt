@@ -5,6 +5,7 @@ use Rattle.std.specs.Option.{option_and_then, option_map_or}
 use Rattle.std.specs.List.{AllByRecursion, filter_map, flat_map, list_any}
 use Rattle.std.specs.Int.{w32, from_le_bytes}
 use Rattle.memory_map.specs.declared.TheConstants.{RAM_START, MTIMECMP_LOW, MTIMECMP_HIGH, MTIME_LOW, MTIME_HIGH, SERIAL_DATA, SERIAL_STATUS, SERIAL_CTRL, DISK_SECTOR, DISK_ADDR, DISK_CMD, DISK_STATUS, DISK_CTRL, DISK_COUNT, POWER}
+use Rattle.memory_map.specs.Halves.{high_half, low_half, with_high, with_low}
 use Rattle.memory_map.specs.Ram.{InRam, in_ram}
 use Rattle.rv_memory.specs.Ram.{placed}
 use Rattle.run_events.specs.Record.{IsMark}
@@ -151,19 +152,6 @@ mtime script step b = (elapsed script step + b.offset) % 2 ^ 64
 -- the offset with which mtime has this value at a step
 abbrev pub offset_for : Script → ℕ → ℕ → ℕ
 offset_for script step value = (value + (2 ^ 64 - elapsed script step % 2 ^ 64)) % 2 ^ 64
-
--- the halves of 64 bits, and one of them set with the other kept
-abbrev pub low_half : ℕ → ℕ
-low_half value = value % 2 ^ 32
-
-abbrev pub high_half : ℕ → ℕ
-high_half value = value / 2 ^ 32
-
-abbrev pub with_low : ℕ → ℕ → ℕ
-with_low value half = high_half value * 2 ^ 32 + half
-
-abbrev pub with_high : ℕ → ℕ → ℕ
-with_high value half = half * 2 ^ 32 + low_half value
 
 -- THE DISK
 

@@ -1,10 +1,12 @@
-//! Where RAM and the device registers of the board lie, where instructions begin, how large a machine and how long its
-//! run may be, and the name for no memory.
+//! Where RAM and the device registers of the board lie, where instructions begin, the halves of 64 bits, how large a
+//! machine and how long its run may be, and the name for no memory.
 #![tactic(auto)]
 
 mod device;
+mod halves;
 
 pub use device::is_device;
+pub use halves::{high_half, low_half, with_high, with_low};
 use std::alloc::AllocError;
 
 /// No memory was found: the one answer that no clause ties to a cause.
