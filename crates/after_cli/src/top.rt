@@ -11,7 +11,7 @@ ghost use Rattle.refusals.specs.Status.{status_of};
 ghost use Rattle.after_cli.specs.Asked.{AreNoJob, AsksForMore, IsAsked, IsNoRun};
 ghost use Rattle.after_cli.specs.Ends.{Ends, TellsLine};
 ghost use Rattle.after_cli.specs.Exact.{IsRight};
-ghost use Rattle.after_cli.specs.Means.{Concludes, IsShown, Means, answer_of};
+ghost use Rattle.after_cli.specs.Means.{Concludes, ShowsText, Means, answer_of};
 
 use crate::running::{JobEnd, run_job};
 use after_edge::{Failed, Files, Sink};
@@ -140,7 +140,7 @@ fn end_failed<E: Sink>(closing: Option<Closing>, err: &mut E) -> Outcome
 
 /// The end of a call that has put a text of its own, by what the put came to: status 0, or 6 and its line.
 pub fn end_shown<E: Sink>(shown: Result<(), Failed>, err: &mut E) -> Outcome
-    ensures { IsShown shown E.told err.old err.new result }
+    ensures { ShowsText shown E.told err.old err.new result }
 {
     match shown {
         Ok(()) => Outcome {

@@ -26,7 +26,7 @@ use Rattle.command_words.specs.Values.{◌>>=◌, all_named, kind_named, kinds, 
 use Rattle.command_words.specs.Roles.{Role, first_bad, found, plain_words, roles}
 use Rattle.command_words.specs.Jobs.{Job, Run, Record, Analyze, Show, Load, Values, value_or, is_best, chosen, named_required, threads, turns, ram, steps, log, word_if, crossed_required, crossed_turns, run_job, run_of, job_of, is_short, read_as, job_in, record_job, analyze_job, load_job}
 use Rattle.command_words.specs.declared.command.Command.{Command}
-use Rattle.command_words.specs.Says.{Gives, says}
+use Rattle.command_words.specs.Says.{GivesJob, says}
 use Rattle.command_words.specs.Sound.{IsBetween, IsLogSize, AreChosen, IsSoundRun, IsSound}
 
 -- ---- what is read of a value
@@ -226,6 +226,6 @@ sound_in [] job h = absurd (cc h)
 sound_in (word ∷ words) job h = by_name (command_named word) (roles 2 None words) job h
 
 -- what was answered is sound
-pub sound_of : (words : List (List ℕ)) (r : Result Command WordsFault) → Gives r (job_in words) → IfOk r (λ command. IsSound (says command))
+pub sound_of : (words : List (List ℕ)) (r : Result Command WordsFault) → GivesJob r (job_in words) → IfOk r (λ command. IsSound (says command))
 sound_of words (Ok c) h = sound_in words (says c) h
 sound_of words (Err fault) h = tt

@@ -47,6 +47,6 @@ says (command.Show words) = Show words.log_file.now
 says (command.Load words) = Load (load_said words)
 
 -- what was answered is what the definition gives
-abbrev pub Gives : Result Command WordsFault → Result Job WordsFault → Type 0
-Gives (Ok c) given = given ≡ Ok (says c)
-Gives (Err fault) given = given ≡ Err fault
+abbrev pub GivesJob : Result Command WordsFault → Result Job WordsFault → Type 0
+GivesJob (Ok c) given = given ≡ Ok (says c)
+GivesJob (Err fault) given = given ≡ Err fault

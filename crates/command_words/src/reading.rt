@@ -4,7 +4,7 @@ ghost use Rattle.command_words.specs.declared.fault.WordsFault.TheVariants.{Miss
 ghost use Rattle.command_words.specs.Drafts.{Advances, Holds, IsDraft, Refuses, held, spent};
 ghost use Rattle.command_words.specs.Jobs.{first_bad_in, job_in, read_as};
 ghost use Rattle.command_words.specs.Sound.{IsSound};
-ghost use Rattle.command_words.specs.Says.{Gives, says};
+ghost use Rattle.command_words.specs.Says.{GivesJob, says};
 ghost use Rattle.command_words.specs.Roles.{Role, ends_open, may_stand, meets_plain, option_of, roles};
 
 use crate::assembling::command_of;
@@ -117,7 +117,7 @@ fn draft_of(command: CommandName, words: &[String]) -> Result<Draft<'_>, WordsFa
 // The command with this name, of the words behind its own.
 #[tactic(auto, unfolding(crate::specs::Jobs::read_as))]
 fn read_as(command: CommandName, words: &[String]) -> Result<Command<'_>, WordsFault>
-    ensures { Gives result (read_as command (roles 2 None (map string_bytes words.now))) }
+    ensures { GivesJob result (read_as command (roles 2 None (map string_bytes words.now))) }
 {
     let draft = match draft_of(command, words) {
         Ok(draft) => draft,
@@ -131,7 +131,7 @@ fn read_as(command: CommandName, words: &[String]) -> Result<Command<'_>, WordsF
 
 #[tactic(auto, unfolding(crate::specs::Jobs::job_in))]
 fn command_in(words: &[String]) -> Result<Command<'_>, WordsFault>
-    ensures { Gives result (job_in (map string_bytes words.now)) }
+    ensures { GivesJob result (job_in (map string_bytes words.now)) }
 {
     let [first, later @ ..] = words else {
         return Err(WordsFault::Missing);
@@ -146,7 +146,7 @@ fn command_in(words: &[String]) -> Result<Command<'_>, WordsFault>
 /// is missing, or the first word that does not go with the others. It takes no memory.
 #[tactic(auto, using(crate::proofs::SoundLaws::sound_of))]
 pub fn read_words(words: &[String]) -> Result<Command<'_>, WordsFault>
-    ensures exact { Gives result (job_in (map string_bytes words.now)) }
+    ensures exact { GivesJob result (job_in (map string_bytes words.now)) }
     ensures sound { IfOk result (λ command. IsSound (says command)) }
 {
     command_in(words)

@@ -172,11 +172,11 @@ unfoldable pub lines_at : SoFar → ℕ → List (List ℕ) → Result SoFar (�
 lines_at so_far number [] = Ok so_far
 lines_at so_far number (text ∷ texts) = at_line number (line_at so_far text) >>= λ line. lines_at (with_line so_far line) (number + 1) texts
 
-abbrev pub finished : SoFar → Script
-finished so_far = record { clock = option_map_or (λ period. period) so_far.clock 100; sectors = so_far.sectors; entries = so_far.entries }
+abbrev pub script_so_far : SoFar → Script
+script_so_far so_far = record { clock = option_map_or (λ period. period) so_far.clock 100; sectors = so_far.sectors; entries = so_far.entries }
 
 -- the script of a file, or the first broken line, by its number from 1, and what is wrong with it
 unfoldable pub script_in : List ℕ → Result Script (ℕ × Broken)
 script_in file = do
   so_far ← lines_at nothing 1 (texts_of file)
-  Ok (finished so_far)
+  Ok (script_so_far so_far)

@@ -176,11 +176,11 @@ abbrev pub sector_count : List ℕ → ℕ
 sector_count bytes = length bytes / 512
 
 -- the mark of a sector's words
-abbrev pub names : ℕ → Span → Bool
-names sector span = nat_le span.first sector && nat_le sector span.last
+abbrev pub holds_sector : ℕ → Span → Bool
+holds_sector sector span = nat_le span.first sector && nat_le sector span.last
 
 abbrev pub mark_of : Script → ℕ → ℕ
-mark_of script sector = if list_any (names sector) script.sectors then 1 else 0
+mark_of script sector = if list_any (holds_sector sector) script.sectors then 1 else 0
 
 -- so many words of these bytes, for the places from an address on
 unfoldable pub words_of : ℕ → List ℕ → ℕ → ℕ → List DmaWord

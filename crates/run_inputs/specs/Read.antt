@@ -26,18 +26,18 @@ pub record IsLong (content : Option Contents) (name : List ℕ) (max : ℕ) : Ty
   pub longer : max < length bytes
 
 -- there is no file of the name, or the files failed
-abbrev pub HasFailed : Option Contents → List ℕ → (before now : ℕ) → Type 0
-HasFailed content name before now = Rose before now ⊎ (IsSome content × IsFound content name None)
+abbrev pub HasFailedFile : Option Contents → List ℕ → (before now : ℕ) → Type 0
+HasFailedFile content name before now = Rose before now ⊎ (IsSome content × IsFound content name None)
 
 -- why one file is not read: it failed, it is too long, which is told as this fault, or there was no memory
-abbrev pub IsRefused : Option Contents → List ℕ → (max : ℕ) → InputFault → (before now : ℕ) → InputFault → Type 0
-IsRefused content name max too_long before now told =
-    ((told ≡ fault.Files) × HasFailed content name before now) ⊎ ((told ≡ too_long) × IsLong content name max) ⊎ (told ≡ fault.NoMemory)
+abbrev pub IsFileRefused : Option Contents → List ℕ → (max : ℕ) → InputFault → (before now : ℕ) → InputFault → Type 0
+IsFileRefused content name max too_long before now told =
+    ((told ≡ fault.Files) × HasFailedFile content name before now) ⊎ ((told ≡ too_long) × IsLong content name max) ⊎ (told ≡ fault.NoMemory)
 
 -- a disk that is not named is read without a fault
 abbrev pub IsDiskRefused : Option Contents → Option (List ℕ) → (before now : ℕ) → InputFault → Type 0
 IsDiskRefused content None before now told = ⊥
-IsDiskRefused content (Some name) before now told = IsRefused content name disk_max fault.DiskTooLong before now told
+IsDiskRefused content (Some name) before now told = IsFileRefused content name disk_max fault.DiskTooLong before now told
 
 -- what is judged is what the definition gives, unless there was no memory
 abbrev pub IsJudgedAs : Result Given Refusal → Result Inputs InputFault → Type 0

@@ -3,7 +3,7 @@ ghost use Rattle.std.specs.Prelude.{◌≡◌, ◌≤◌, Ok, Some, OnOk, IfOk, 
 ghost use Rattle.run_inputs.specs.Faults.{HasCause};
 ghost use Rattle.run_inputs.specs.Files.{Comes, IsDiskFound, IsFound};
 ghost use Rattle.run_inputs.specs.Given.{bytes_in, disk_max};
-ghost use Rattle.run_inputs.specs.Read.{IsDiskRefused, IsRefused, bytes_of};
+ghost use Rattle.run_inputs.specs.Read.{IsDiskRefused, IsFileRefused, bytes_of};
 
 use crate::InputFault;
 use after_edge::{FileFault, Files, read_all};
@@ -39,7 +39,7 @@ fn read_file<F: Files>(
     ensures within { IfOk result (λ bytes. length bytes.items ≤ max) }
     ensures kept { OnOk result (F.faults files.old ≤ F.faults files.new) }
     ensures refused { IfErr result
-        (IsRefused (F.content files.old) name.now max too_long (F.faults files.old)
+        (IsFileRefused (F.content files.old) name.now max too_long (F.faults files.old)
         (F.faults files.new)) }
     ensures same { F.content files.new ≡ F.content files.old }
 {

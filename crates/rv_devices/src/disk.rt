@@ -32,17 +32,17 @@ pub struct Disk {
 }
 
 // Whether a span names a sector.
-fn names(span: &Span, sector: u32) -> bool
-    ensures { result ≡ model.names sector span.now }
+fn holds_sector(span: &Span, sector: u32) -> bool
+    ensures { result ≡ model.holds_sector sector span.now }
 {
     span.first <= sector && sector <= span.last
 }
 
 // Whether one of some spans names a sector.
 fn is_named(spans: &[Span], sector: u32) -> bool
-    ensures { result ≡ list_any (model.names sector) spans.now }
+    ensures { result ≡ list_any (model.holds_sector sector) spans.now }
 {
-    spans.iter().any(|span| names(span, sector))
+    spans.iter().any(|span| holds_sector(span, sector))
 }
 
 impl Disk {
@@ -183,7 +183,7 @@ impl Disk {
         ensures to { self.new.pending.address ≡ self.old.address }
         ensures busy { self.new.activity ≡ Activity.Busy before }
         ensures mark { self.new.pending.mark
-            ≡ (if list_any (model.names self.old.sector) self.old.sectors.items then 1 else 0) }
+            ≡ (if list_any (model.holds_sector self.old.sector) self.old.sectors.items then 1 else 0) }
     {
         let at = SECTOR_BYTES * self.sector as usize;
         let sector = &self.bytes[at..at + SECTOR_BYTES];

@@ -52,14 +52,14 @@ is_over Over = true
 
 -- at most so many items are to come in a phase, with so many steps left and so many words due: in each step 128 words,
 -- the lines, a load and a mark, and one at the end
-abbrev pub items_left : Phase → (left due : ℕ) → ℕ
-items_left Between left due = 133 * left + 1
-items_left Words left due = 133 * left + due + 4
-items_left Lines left due = 133 * left + 4
-items_left Need left due = 133 * left + 3
-items_left (Given supplied) left due = 133 * left + 2
-items_left (Ending cause) left due = 1
-items_left Over left due = 0
+abbrev pub items_at_most : Phase → (left due : ℕ) → ℕ
+items_at_most Between left due = 133 * left + 1
+items_at_most Words left due = 133 * left + due + 4
+items_at_most Lines left due = 133 * left + 4
+items_at_most Need left due = 133 * left + 3
+items_at_most (Given supplied) left due = 133 * left + 2
+items_at_most (Ending cause) left due = 1
+items_at_most Over left due = 0
 
 -- how a run goes on after a step, at which the guest gave its status or did not
 abbrev pub phase_after : Option ℕ → Phase

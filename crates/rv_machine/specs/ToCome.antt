@@ -12,7 +12,7 @@ use Rattle.machine_model.specs.Board.{BoardState, IsDiskWord, IsUnderWay, board_
 use Rattle.machine_model.specs.Script.{Script}
 use Rattle.rv_devices.specs.Stands.{Stands, words_due}
 use Rattle.rv_devices.specs.declared.board.Board.{Board}
-use Rattle.rv_machine.specs.Phase.{inside, is_over, items_left}
+use Rattle.rv_machine.specs.Phase.{inside, is_over, items_at_most}
 use Rattle.rv_machine.specs.declared.machine.Machine.{Machine}
 use Rattle.rv_machine.specs.declared.phase.Phase.{Phase}
 use Rattle.rv_machine.specs.declared.phase.Phase.TheVariants.{Between, Words, Lines, Need, Given, Ending, Over}
@@ -70,16 +70,16 @@ steps_of m = m.cpu.step
 
 -- a bound on the number of items to come, which falls with each item
 abbrev pub to_do : Machine → ℕ
-to_do m = items_left m.phase m.left (words_due m.board)
+to_do m = items_at_most m.phase m.left (words_due m.board)
 
 -- what a machine hands out
 abbrev pub recording : Recording Machine
 recording = record { to_come = ToCome; left = to_do }
 
 -- a turn gives the next item, or none and all are still to come
-abbrev pub Gives : Option Item → List Item → Machine → Type 0
-Gives None items after = ToCome after items
-Gives (Some item) items after = GivesItem recording item items after
+abbrev pub GivesNext : Option Item → List Item → Machine → Type 0
+GivesNext None items after = ToCome after items
+GivesNext (Some item) items after = GivesItem recording item items after
 
 -- steps were done that make no item, and so none of their numbers plus 1 is a multiple of 256
 pub record GoesOn (before after : Machine) : Type 0 where
@@ -93,17 +93,17 @@ pub record Gave (before after : Machine) : Type 0 where
   pub few : after.cpu.step ≤ before.cpu.step / 256 * 256 + 256
   pub less : to_do after < to_do before
 
-abbrev pub Moves : Option Item → Machine → Machine → Type 0
-Moves None before after = GoesOn before after
-Moves (Some item) before after = Gave before after
+abbrev pub MovesOn : Option Item → Machine → Machine → Type 0
+MovesOn None before after = GoesOn before after
+MovesOn (Some item) before after = Gave before after
 
 -- a turn from a machine to the next
-pub record Turned (given : Option Item) (before after : Machine) : Type 0 where
-  pub gives : (items : List Item) → ToCome before items → Gives given items after
-  pub moves : Moves given before after
+pub record IsOneTurn (given : Option Item) (before after : Machine) : Type 0 where
+  pub gives : (items : List Item) → ToCome before items → GivesNext given items after
+  pub moves : MovesOn given before after
 
 -- the next item of a machine, which comes after at most 256 steps
-pub record Found (item : Item) (before after : Machine) : Type 0 where
+pub record FoundNext (item : Item) (before after : Machine) : Type 0 where
   pub gives : (items : List Item) → ToCome before items → GivesItem recording item items after
   pub few : after.cpu.step ≤ before.cpu.step + 256
   pub less : to_do after < to_do before

@@ -62,7 +62,7 @@ fn start(alloc: Global, image: &Image, ram_kib: u32) -> Result<Cpu, NoMemory>
 
 impl Machine {
     ghost use Rattle.any_machine.specs.Recording.{Advances, Falls};
-    ghost use Rattle.rv_machine.specs.ToCome.{Found, ToCome, Turned, recording, steps_of};
+    ghost use Rattle.rv_machine.specs.ToCome.{FoundNext, ToCome, IsOneTurn, recording, steps_of};
 
     /// The guest of an image at step 0, beside the board of this script and this disk file, which will be run for at most
     /// `limit` steps. RAM has 64 to 16,384 KiB, the disk file at most 16 MiB. It is the only call that takes memory.
@@ -118,7 +118,7 @@ impl Machine {
     // Runs on to the next item, which comes at the latest after a step whose number plus 1 is a multiple of 256.
     fn next_item(&mut self) -> Item
         requires { is_over self.old.phase ≡ false }
-        ensures { Found result self.old self.new }
+        ensures { FoundNext result self.old self.new }
     {
         'turns: for _turn in 0..256 - self.cpu.steps() % 256 {
             if let Some(item) = self.turn() {
@@ -131,7 +131,7 @@ impl Machine {
     // Goes on to the next item, or to the end of the step that is to be done.
     fn turn(&mut self) -> Option<Item>
         requires { is_over self.old.phase ≡ false }
-        ensures { Turned result self.old self.new }
+        ensures { IsOneTurn result self.old self.new }
     {
         match self.phase {
             Phase::Between => self.begin(),
@@ -147,7 +147,7 @@ impl Machine {
     // Begins the next step, if one is left.
     fn begin(&mut self) -> Option<Item>
         requires { self.old.phase ≡ Between }
-        ensures { Turned result self.old self.new }
+        ensures { IsOneTurn result self.old self.new }
     {
         if self.left == 0 {
             return Some(self.end(EndCause::Limit));
@@ -161,7 +161,7 @@ impl Machine {
     // Writes the next word of the disk to RAM, if one is due.
     fn write_words(&mut self) -> Option<Item>
         requires { self.old.phase ≡ Words }
-        ensures { Turned result self.old self.new }
+        ensures { IsOneTurn result self.old self.new }
     {
         match self.board.due() {
             Some(word) => {
@@ -178,7 +178,7 @@ impl Machine {
     // Looks at the lines, and tells them where they have changed.
     fn tell_lines(&mut self) -> Option<Item>
         requires { self.old.phase ≡ Lines }
-        ensures { Turned result self.old self.new }
+        ensures { IsOneTurn result self.old self.new }
     {
         let bits = self.board.lines();
         self.phase = Phase::Need;
@@ -196,7 +196,7 @@ impl Machine {
     // Does the step and those after it as long as they are plain ones and nothing else is due; or it is another one.
     fn run_on(&mut self) -> Option<Item>
         requires { self.old.phase ≡ Asks }
-        ensures { Turned result self.old self.new }
+        ensures { IsOneTurn result self.old self.new }
     {
         let step = self.cpu.steps();
         let more = self.board.quiet_for().min(self.left).min(255 - step % 256);
@@ -213,7 +213,7 @@ impl Machine {
     // Does the step, or takes of the board what it has to be given.
     fn ask_need(&mut self) -> Option<Item>
         requires { self.old.phase ≡ Asks }
-        ensures { Turned result self.old self.new }
+        ensures { IsOneTurn result self.old self.new }
     {
         match self.cpu.next_need(self.lines) {
             Need::Load { address, .. } => {
@@ -234,7 +234,7 @@ impl Machine {
         requires inside { inside self.old.phase ≡ 1 }
         requires quiet { sends self.old.phase ≡ 0 }
         requires given { Supplies self.old.phase supplied (needs self.old.cpu self.old.lines) }
-        ensures { Turned result self.old self.new }
+        ensures { IsOneTurn result self.old self.new }
     {
         let step = self.cpu.steps();
         let event = self.cpu.step(self.lines, supplied);
