@@ -7,7 +7,8 @@ use Rattle.std.proofs.lemmas.Bool.{lt-ltb, le-ltb, ltb-true, ltb-false, eqb-true
 use Rattle.std.proofs.lemmas.List.{append-nil, nil_from_length}
 use Rattle.machine_model.specs.Script.{Span, Entry, What, Serial, Tick, Latency, Script}
 use Rattle.format_model.specs.Script.{Line, Blank, Clock, Sectors, At, most_steps, most_sectors, IsWhat, IsLine, what_text, SpellsWhat, Spells, clocks, spans, entries, last_step, MayStand, StandAfter, SpellEach, period_of, script_of, longer, texts_of, IsScript, hex}
-use Rattle.format_model.specs.ScriptReading.{◌>>=◌, Broken, BadLine, Falling, TooMany, strip, cut, at_space, is_number, number_in, number_at, hex_at, serial_at, tick_at, latency_at, what_at, SoFar, nothing, with_line, clock_at, span_in, sectors_at, entry_in, entry_at, is_blank, line_at, at_line, lines_at, script_so_far, script_in}
+use Rattle.format_model.specs.Then.{◌>>=◌}
+use Rattle.format_model.specs.ScriptReading.{Broken, BadLine, Falling, TooMany, strip, cut, at_space, is_number, number_in, number_at, hex_at, serial_at, tick_at, latency_at, what_at, SoFar, nothing, with_line, clock_at, span_in, sectors_at, entry_in, entry_at, is_blank, line_at, at_line, lines_at, script_so_far, script_in}
 use Rattle.format_model.proofs.ScriptParts.{bind_ok, ok_is, chosen_ok, passed_ok, either_of, taken, strip_found, cut_again, cut_found, decimal_digits, decimal_number, in_again, in_found, number_again, number_found, AreBytes, hex_again, hex_found}
 
 -- ---- what arrives

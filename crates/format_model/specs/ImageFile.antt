@@ -5,6 +5,7 @@ use Rattle.std.specs.Int.{w32, from_le_bytes}
 use Rattle.std.specs.List.{AllByRecursion}
 use Rattle.memory_map.specs.Ram.{in_ram, InRam}
 use Rattle.machine_model.specs.Image.{Segment, Image, IsLoadable, flat_image}
+use Rattle.format_model.specs.Then.{◌>>=◌}
 
 -- why a file gives no image
 pub data Fault : Type 0 where
@@ -16,12 +17,6 @@ pub data Fault : Type 0 where
   Overlap : (first : ℕ) (second : ℕ) → Fault
   NoSegment : Fault
   EntryOutside : Fault
-
--- the value of a part, or the first fault
-infixl 10 ◌>>=◌
-abbrev pub ◌>>=◌ : {A B : Type 0} → Result A Fault → (A → Result B Fault) → Result B Fault
-(Ok x) >>= f = f x
-(Err e) >>= f = Err e
 
 -- a field of so many bytes at a place
 abbrev pub field_at : List ℕ → ℕ → ℕ → ℕ

@@ -5,6 +5,7 @@ use Rattle.std.specs.Char.{is_ascii_digit}
 use Rattle.std.specs.List.{list_all}
 use Rattle.machine_model.specs.Script.{Span, Entry, Script, What}
 use Rattle.machine_model.specs.Script as model
+use Rattle.format_model.specs.Then.{◌>>=◌}
 use Rattle.format_model.specs.Script.{Line, Blank, Clock, Sectors, At, most_steps, most_sectors, last_step, texts_of}
 
 -- what may be wrong with a line, in the order in which it is told
@@ -13,12 +14,6 @@ pub data Broken : Type 0 where
   BadNumber : Broken
   Falling : Broken
   TooMany : Broken
-
--- the value of a part, or the first fault
-infixl 10 ◌>>=◌
-abbrev pub ◌>>=◌ : {A B E : Type 0} → Result A E → (A → Result B E) → Result B E
-(Ok x) >>= f = f x
-(Err e) >>= f = Err e
 
 -- what stands after a word, where the text begins with it
 abbrev pub strip : List ℕ → List ℕ → Option (List ℕ)

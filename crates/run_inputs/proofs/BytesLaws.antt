@@ -1,7 +1,7 @@
 -- What the reads of a run's files say together.
 use Rattle.std.proofs.Common.{◌≡◌, ℕ, ◌<◌, ◌≤◌, inl, inr, List, length, Option, Some, None, Result, Ok, Err, refl, sym, subst}
 use Rattle.std.proofs.lemmas.Bool.{cases_lt, lt-ltb, le-ltb}
-use Rattle.format_model.specs.ScriptReading.{◌>>=◌}
+use Rattle.format_model.specs.Then.{◌>>=◌}
 use Rattle.after_edge.specs.Files.{Contents}
 use Rattle.after_edge.proofs.FaultLaws.{Rose-later}
 use Rattle.run_inputs.specs.declared.fault.InputFault.{InputFault}
