@@ -38,7 +38,9 @@ TellsLine sink old new told = Writes sink old new told ⊎ WritesPart sink old n
 abbrev pub HasReason : Option Contents → List (List ℕ) → (before now : ℕ) → Refusal → Type 0
 HasReason content words before now (refusal.Words fault) = job_in words ≡ Err fault
 HasReason content words before now refusal.NotBuilt = AsksForMore words
-HasReason content words before now (refusal.Inputs fault) = (run : RunJob) × IsAsked words run × HasCause (inputs_in run.ram_kib) content (names_of run) before now fault
+HasReason content words before now (refusal.Inputs fault) =
+    (run : RunJob) × IsAsked words run
+    × HasCause (inputs_in run.ram_kib) content (names_of run) before now fault
 HasReason content words before now refusal.NoMemory = (run : RunJob) × IsAsked words run
 
 -- A run was done: the bytes added to the output are the text of its job, no more and no less, the status is the job's, and

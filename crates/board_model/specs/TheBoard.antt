@@ -13,7 +13,8 @@ use Rattle.machine_model.specs.Board.{BoardState, words_before, at_step, board_l
 abbrev pub after_access : Script → ℕ → List ℕ → BoardState → Access → BoardState
 after_access script step ram b Quiet = b
 after_access script step ram b (Load address width value device mark) = b
-after_access script step ram b (Store address width value true) = after_store script step ram b address value
+after_access script step ram b (Store address width value true) =
+    after_store script step ram b address value
 after_access script step ram b (Store address width value false) = b
 after_access script step ram b (Swap address old new) = b
 
@@ -21,7 +22,8 @@ abbrev pub after_event : Script → ℕ → List ℕ → BoardState → Event �
 after_event script step ram b (Dma n address word mark) = b
 after_event script step ram b (Irq n pc cause next) = b
 after_event script step ram b (Trap n pc word cause value next) = b
-after_event script step ram b (Exec n pc word next result access told) = after_access script step ram b access
+after_event script step ram b (Exec n pc word next result access told) =
+    after_access script step ram b access
 
 -- the devices of a script, for a hart
 unfoldable pub board : Script → Board State BoardState

@@ -34,10 +34,19 @@ record_said words = record {
 }
 
 abbrev pub analyze_said : AnalyzeWords → AnalyzeJob
-analyze_said words = record { image = words.image.now; log_file = words.log_file.now; kinds = words.kinds }
+analyze_said words = record {
+  image = words.image.now;
+  log_file = words.log_file.now;
+  kinds = words.kinds;
+}
 
 abbrev pub load_said : LoadWords → LoadJob
-load_said words = record { seed = words.seed; size = words.size; log = words.log; threads = words.threads }
+load_said words = record {
+  seed = words.seed;
+  size = words.size;
+  log = words.log;
+  threads = words.threads;
+}
 
 abbrev pub says : Command → Job
 says (command.Run run) = Run (run_said run)

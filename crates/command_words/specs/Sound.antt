@@ -32,7 +32,8 @@ pub record IsSoundRun (run : RunJob) : Type 0 where
 
 abbrev pub IsSound : Job → Type 0
 IsSound (Run run) = IsSoundRun run
-IsSound (Record job) = IsBetween LEAST_RAM_KIB MOST_RAM_KIB job.ram_kib × IsBetween 1 MOST_STEPS job.limit
+IsSound (Record job) =
+    IsBetween LEAST_RAM_KIB MOST_RAM_KIB job.ram_kib × IsBetween 1 MOST_STEPS job.limit
 IsSound (Analyze job) = AreChosen job.kinds
 IsSound (Show log_file) = Unit {0}
 IsSound (Load job) = IsBetween 1 100000 job.size × IsLogSize job.log × (job.threads ≤ 8)

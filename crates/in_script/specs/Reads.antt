@@ -35,6 +35,7 @@ RefusesAt (fault.Falling line) read = read ≡ Err (line, model.Falling)
 RefusesAt (fault.TooMany line) read = read ≡ Err (line, model.TooMany)
 RefusesAt fault.NoMemory read = Unit {0}
 
-abbrev pub GivesFile : {X Y : Type 0} → (X → Y) → Result X ScriptFault → Result Y (ℕ × model.Broken) → Type 0
+abbrev pub GivesFile : {X Y : Type 0} → (X → Y) → Result X ScriptFault → Result Y (ℕ × model.Broken)
+    → Type 0
 GivesFile view (Ok x) read = read ≡ Ok (view x)
 GivesFile view (Err e) read = RefusesAt e read

@@ -17,7 +17,8 @@ step_of (Exec step pc word next result access told) = step
 abbrev pub byte_stored_at : ℕ → Access → Option ℕ
 byte_stored_at place Quiet = None
 byte_stored_at place (Load address width value device mark) = None
-byte_stored_at place (Store address width value device) = if address == place then Some (value % 256) else None
+byte_stored_at place (Store address width value device) =
+    if address == place then Some (value % 256) else None
 byte_stored_at place (Swap address old new) = None
 
 -- and that an event stores there

@@ -53,11 +53,19 @@ of_script script.NoMemory = fault.NoMemory
 
 -- When each fault comes, from a reader of the files: an absent file or a failure where the count rose or the files tell
 -- that one is absent; each other where the definition gives it; want of memory has no cause.
-abbrev pub HasCause : {Y : Type 0} → (Found → Result Y Refusal) → Option Contents → Names → (before now : ℕ) → InputFault → Type 0
-HasCause read content names before now fault.Files = Rose before now ⊎ (IsSome content × Comes read content names (Err Absent))
-HasCause read content names before now fault.ImageTooLong = Comes read content names (Err ImageTooLong)
-HasCause read content names before now fault.ScriptTooLong = Comes read content names (Err ScriptTooLong)
-HasCause read content names before now fault.DiskTooLong = Comes read content names (Err DiskTooLong)
-HasCause read content names before now (fault.Image e) = (k : image_model.Fault) × (image_fault e ≡ Some k) × Comes read content names (Err (BadImage k))
-HasCause read content names before now (fault.Script e) = (k : ℕ × script_model.Broken) × (script_fault e ≡ Some k) × Comes read content names (Err (BadScript k))
+abbrev pub HasCause : {Y : Type 0} → (Found → Result Y Refusal) → Option Contents → Names
+    → (before now : ℕ) → InputFault → Type 0
+HasCause read content names before now fault.Files =
+    Rose before now ⊎ (IsSome content × Comes read content names (Err Absent))
+HasCause read content names before now fault.ImageTooLong =
+    Comes read content names (Err ImageTooLong)
+HasCause read content names before now fault.ScriptTooLong =
+    Comes read content names (Err ScriptTooLong)
+HasCause read content names before now fault.DiskTooLong =
+    Comes read content names (Err DiskTooLong)
+HasCause read content names before now (fault.Image e) =
+    (k : image_model.Fault) × (image_fault e ≡ Some k) × Comes read content names (Err (BadImage k))
+HasCause read content names before now (fault.Script e) =
+    (k : ℕ × script_model.Broken) × (script_fault e ≡ Some k)
+    × Comes read content names (Err (BadScript k))
 HasCause read content names before now fault.NoMemory = Unit {0}

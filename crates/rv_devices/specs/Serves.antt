@@ -12,7 +12,8 @@ use Rattle.rv_devices.specs.Sends.{Sends, words_left}
 -- what it is at, with the words of the command that is being done
 abbrev pub activity_of : Activity → Transfer → model.Activity
 activity_of code.Idle pending = model.Idle
-activity_of (code.Busy before) pending = model.Busy (record { before = before; words = words_left pending })
+activity_of (code.Busy before) pending =
+    model.Busy (record { before = before; words = words_left pending })
 activity_of code.Done pending = model.Done
 activity_of code.Refused pending = model.Refused
 
@@ -24,7 +25,8 @@ NotBefore step code.Done = Unit {0}
 NotBefore step code.Refused = Unit {0}
 
 -- a disk of a board in this state, with these words still to be handed out
-pub record Serves (script : Script) (words : List DmaWord) (state : model.BoardState) (disk : Disk) : Type 0 where
+pub record Serves (script : Script) (words : List DmaWord) (state : model.BoardState) (disk : Disk)
+    : Type 0 where
   pub bytes_are : disk.bytes.items ≡ state.bytes
   pub small : length state.bytes < 2 ^ 32
   pub sectors_are : disk.sectors.items ≡ script.sectors

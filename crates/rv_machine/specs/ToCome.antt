@@ -18,12 +18,16 @@ use Rattle.rv_machine.specs.declared.phase.Phase.{Phase}
 use Rattle.rv_machine.specs.declared.phase.Phase.TheVariants.{Between, Words, Lines, Need, Given, Ending, Over}
 
 -- the items to come in each phase, with so many steps left up to the limit after the one that has begun
-unfoldable pub coming : Script → Phase → (left step lines : ℕ) → State → BoardState → List DmaWord → List Item
-coming script Between left step lines s b words = still_to_come hart (board script) left step lines s b
-coming script Words left step lines s b words = at_words hart (board script) left step lines s b words
+unfoldable pub coming : Script → Phase → (left step lines : ℕ) → State → BoardState → List DmaWord
+    → List Item
+coming script Between left step lines s b words =
+    still_to_come hart (board script) left step lines s b
+coming script Words left step lines s b words =
+    at_words hart (board script) left step lines s b words
 coming script Lines left step lines s b words = at_lines hart (board script) left step lines s b
 coming script Need left step lines s b words = at_load hart (board script) left step lines s b
-coming script (Given supplied) left step lines s b words = at_step hart (board script) left step lines s b (Some supplied)
+coming script (Given supplied) left step lines s b words =
+    at_step hart (board script) left step lines s b (Some supplied)
 coming script (Ending cause) left step lines s b words = end_item step cause ∷ []
 coming script Over left step lines s b words = []
 
@@ -49,7 +53,8 @@ HasTold Over lines shown = Unit {0}
 
 -- A hart and a board in a phase of a step, with so many steps left after the one that has begun, and these lines held:
 -- the board gives RAM what it may take, and these items are still to come.
-pub record Awaits (phase : Phase) (left lines : ℕ) (s : State) (b : Board) (items : List Item) : Type 0 where
+pub record Awaits (phase : Phase) (left lines : ℕ) (s : State) (b : Board) (items : List Item)
+    : Type 0 where
   pub script : Script
   pub state : BoardState
   pub words : List DmaWord
