@@ -3,6 +3,7 @@ ghost use Rattle.std.specs.Prelude.{◌≡◌, ◌≤◌, List, [], ◌∷◌, �
 ghost use Rattle.run_events.specs.declared.finding.Finding.{Finding};
 ghost use Rattle.finding_tally.specs.Tallied.{Tallies, with_finding, tallied_with};
 
+use memory_map::SharedByThreads;
 use run_events::{Finding, FindingKind};
 use std::marker::Model;
 
@@ -15,6 +16,8 @@ pub struct Tally {
     places: [Finding; 64],
     used: usize,
 }
+
+impl SharedByThreads for Tally {}
 
 impl Model for Tally {
     ghost use Rattle.std.specs.Prelude.{◌≤◌, take};

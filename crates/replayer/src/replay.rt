@@ -1,7 +1,7 @@
 //! The replay of a guest, fed record by record.
 use crate::Diverged;
 use elf_image::Image;
-use memory_map::NoMemory;
+use memory_map::{CrossesThreads, NoMemory};
 use run_events::{Record, Watcher};
 use rv_cpu::Cpu;
 use rv_memory::Ram;
@@ -12,6 +12,8 @@ use std::alloc::Global;
 pub struct Replay {
     fed: any_replay::Replay<Cpu>,
 }
+
+impl CrossesThreads for Replay {}
 
 impl Replay {
     ghost use Rattle.memory_map.specs.declared.TheConstants.{LEAST_RAM_KIB, MOST_RAM_KIB};
@@ -96,11 +98,4 @@ impl Replay {
     {
         self.fed.takes()
     }
-}
-
-// A replay may be handed to another thread.
-fn crosses_threads<T: Send>(_value: &T) {}
-
-fn replay_crosses_threads(replay: &Replay) {
-    crosses_threads(replay);
 }

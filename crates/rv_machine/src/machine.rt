@@ -23,7 +23,7 @@ use crate::told::{after_power, mark_item, plain, reach_item, word_item};
 use any_machine::{Advance, Recorder};
 use elf_image::Image;
 use in_script::Script;
-use memory_map::NoMemory;
+use memory_map::{CrossesThreads, NoMemory};
 use run_events::{Access, DmaWord, EndCause, Event, Item, Need, Record, Supplied};
 use rv_cpu::Cpu;
 use rv_devices::Board;
@@ -44,6 +44,8 @@ pub struct Machine {
     ghost given: { awaits phase (is_load (needs cpu lines)) ≡ true },
     ghost size: { length cpu.ram ≤ 2 ^ 24 },
 }
+
+impl CrossesThreads for Machine {}
 
 // The hart of a guest before its first step, over the RAM that its image fills.
 #[tactic(auto, unfolding(machine_model::specs::Image::ram_at_start))]
@@ -325,11 +327,4 @@ fn store_outside(board: &mut Board, event: &Event, ram: &Ram)
         Event::Exec { access, .. } => store_access(board, access, ram),
         Event::Dma { .. } | Event::Irq { .. } | Event::Trap { .. } => {}
     }
-}
-
-// A recorder may be handed to another thread.
-fn crosses_threads<T: Send>(_value: &T) {}
-
-fn machine_crosses_threads(machine: &Machine) {
-    crosses_threads(machine);
 }

@@ -4,7 +4,7 @@ ghost use Rattle.memory_map.specs.declared.TheConstants.{LEAST_RAM_KIB, MOST_RAM
 ghost use Rattle.shadow_state.specs.Shade.{Shade, Paint, shade, has_byte, painted_from, painted, last_paint, IsPainted, IsLeast, NoneBetween};
 ghost use Rattle.shadow_state.specs.Places.{IsFirstPlace, NoPlace};
 
-use memory_map::{NoMemory, RAM_START};
+use memory_map::{NoMemory, RAM_START, SharedByThreads};
 use std::alloc::Global;
 use std::marker::Model;
 
@@ -13,6 +13,8 @@ use std::marker::Model;
 pub struct Shadow {
     bytes: Vec<u8>,
 }
+
+impl SharedByThreads for Shadow {}
 
 impl Model for Shadow {
     ghost use Rattle.std.specs.Prelude.{◌≤◌, length};
