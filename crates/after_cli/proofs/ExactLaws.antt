@@ -1,4 +1,4 @@
--- Where the files tell what they are, and neither they nor the output fail, a call comes to one thing, or to want of memory.
+-- Where the files tell what they are, and neither they nor the output fail, a call comes to one thing, or to no memory.
 use Rattle.std.proofs.Common.{◌≡◌, ℕ, false, ltb, List, Some, Result, Ok, Err, inl, inr, sym, ap, subst, ◌∙◌, arith}
 use Rattle.std.proofs.lemmas.Bool.{lt-ltb, le-ltb}
 use Rattle.after_edge.specs.Fault.{Rose}

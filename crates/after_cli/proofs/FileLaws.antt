@@ -22,7 +22,7 @@ module _ (told : Contents) (names : Names) where
   pub one_answer : {Y : Type 0} (read : Found → Result Y Refusal) (answer : Result Y Refusal) → Comes read (Some told) names answer → read (found_in told names) ≡ answer
   one_answer read answer comes = ap read (one_found comes.found comes.are) ∙ comes.gives
 
-  -- a fault, where the count stays, is that of the definition, or want of memory
+  -- a fault, where the count stays, is that of the definition, or no memory
   pub data Refuses {Y : Type 0} (read : Found → Result Y Refusal) (status : ℕ) : Type 0 where
     For : (refusal : Refusal) → read (found_in told names) ≡ Err refusal → status ≡ refused_status refusal → Refuses read status
     NoMemory : status ≡ 9 → Refuses read status

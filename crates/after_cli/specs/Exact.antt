@@ -33,7 +33,7 @@ refused_status (BadImage fault) = 3
 refused_status (BadScript fault) = 4
 
 module _ {O : Type 0} (out : Telling O) (old new : O) (outcome : Outcome) where
-  -- of a run whose files give this: its whole text and its status, or the status of what refuses them; or want of memory
+  -- of a run whose files give this: its whole text and its status, or the status of what refuses them; or no memory
   abbrev pub IsRightBy : RunJob → Result Given Refusal → Type 0
   IsRightBy run (Ok given) =
       (outcome.status ≡ 9)

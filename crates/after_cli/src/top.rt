@@ -219,7 +219,7 @@ pub fn aftersight_plain<F: Files, O: Sink, E: Sink>(
     }) result }
 
     // Where the files tell what they are, and neither they nor the output fail, it comes to what the definitions say of the
-    // words and the files, or to want of memory.
+    // words and the files, or to no memory.
     ensures exact { (told : Contents) → F.content files.old ≡ Some told
         → ¬ Rose (F.faults files.old) (F.faults files.new)
         → ¬ Rose (O.told.faults out.old) (O.told.faults out.new)

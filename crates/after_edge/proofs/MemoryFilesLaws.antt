@@ -175,7 +175,7 @@ module _ (text : List ℕ) (before entries after : List Kept) (same : entries �
       let P : List Kept → List Kept → Type 0 = λ es fs. Changes (Some (file_of es)) (Some (file_of fs)) text (MayBeAppended piece) in
       subst (λ (es : List Kept). P es after) same (subst (P entries) (sym is) (append_step text piece entries (entry_of entries text) refl))
 
--- where a search for the name ended: its entry, and what a write there and a new entry behind the others make
+-- where a search for the name ended: its entry, and what a write there and a new entry after the others make
 module _ (text : List ℕ) (entries slice : List Kept) (same : slice ≡ entries) where
   at_entries : {found : Option ℕ} → found ≡ position (is_named text) slice → position (is_named text) entries ≡ found
   at_entries at = ap (λ l. position (is_named text) l) (sym same) ∙ sym at

@@ -41,7 +41,7 @@ changed change text [] = []
 changed change text (entry ∷ entries) =
     if is_named text entry then change entry ∷ entries else entry ∷ changed change text entries
 
--- the entry of this name, changed, or else a new one behind the others
+-- the entry of this name, changed, or else a new one after the others
 abbrev pub changed_or_added : (Kept → Kept) → Kept → List ℕ → List Kept → List Kept
 changed_or_added change fresh text entries =
     if is_some (entry_of entries text) then changed change text entries else entries ++ fresh ∷ []

@@ -1,4 +1,4 @@
--- What each word behind the command is, and the first bad one.
+-- What each word after the command is, and the first bad one.
 use Rattle.std.specs.Prelude.{ℕ, ◌+◌, ◌==◌, Bool, true, false, not, ◌&&◌, nat_lt, if◌then◌else◌, List, [], ◌∷◌, ◌++◌, length, Option, Some, None, is_none, is_some}
 use Rattle.std.specs.List.{list_any}
 use Rattle.command_words.specs.declared.table.CommandName.{CommandName}
@@ -74,7 +74,7 @@ meets_plain Show before word = true
 meets_plain Load before word =
     if before == 0 then is_some (seed_in word) else is_some (size_in word)
 
--- whether a plain word may stand behind so many others
+-- whether a plain word may stand after so many others
 unfoldable pub may_stand : CommandName → ℕ → List ℕ → Bool
 may_stand command before word =
     nat_lt before (plain_count command) && is_plain word && meets_plain command before word

@@ -76,7 +76,7 @@ kinds = Heap ∷ Taint ∷ Calls ∷ Cover ∷ Locks ∷ []
 unfoldable pub kind_named : List ℕ → Option Kind
 kind_named text = find (λ kind. bytes_eq text (kind_name kind)) kinds
 
--- a text with one byte more in front of the first part
+-- a text with one byte more before the first part
 abbrev pub onto_first : ℕ → List (List ℕ) → List (List ℕ)
 onto_first b [] = []
 onto_first b (text ∷ texts) = (b ∷ text) ∷ texts
@@ -86,7 +86,7 @@ unfoldable pub parts_of : List ℕ → List (List ℕ)
 parts_of [] = [] ∷ []
 parts_of (b ∷ bs) = if b == 44 then [] ∷ parts_of bs else onto_first b (parts_of bs)
 
--- the texts of what stands behind a comma
+-- the texts of what stands after a comma
 abbrev pub parts_after : Option (List ℕ) → List (List ℕ)
 parts_after None = []
 parts_after (Some text) = parts_of text

@@ -39,7 +39,7 @@ fn meets_plain(command: CommandName, before: usize, word: &str) -> bool
     }
 }
 
-// Whether a plain word may stand behind so many others.
+// Whether a plain word may stand after so many others.
 #[tactic(auto, unfolding(crate::specs::Roles::may_stand))]
 fn may_stand(command: CommandName, before: usize, word: &str) -> bool
     ensures { result ≡ may_stand command before word.now }
@@ -55,7 +55,7 @@ fn word_at(words: &[String], index: usize) -> &str
     words[index].as_str()
 }
 
-// Reads the word at an index, and the value behind it where it is an option: answers the index of the next.
+// Reads the word at an index, and the value after it where it is an option: answers the index of the next.
 fn take_next<'a>(
     draft: &mut Draft<'a>,
     command: CommandName,
@@ -96,7 +96,7 @@ fn take_next<'a>(
     Ok(index + 2)
 }
 
-// All that the words behind the command say, where none of them is bad.
+// All that the words after the command say, where none of them is bad.
 fn draft_of(command: CommandName, words: &[String]) -> Result<Draft<'_>, WordsFault>
     ensures ok { IfOk result (IsDraft command (roles 2 None (map string_bytes words.now))) }
     ensures err { IfErr result (Refuses command [] (roles 2 None (map string_bytes words.now))) }
@@ -114,7 +114,7 @@ fn draft_of(command: CommandName, words: &[String]) -> Result<Draft<'_>, WordsFa
     Ok(draft)
 }
 
-// The command with this name, of the words behind its own.
+// The command with this name, of the words after its own.
 #[tactic(auto, unfolding(crate::specs::Jobs::read_as))]
 fn read_as(command: CommandName, words: &[String]) -> Result<Command<'_>, WordsFault>
     ensures { GivesJob result (read_as command (roles 2 None (map string_bytes words.now))) }
@@ -152,7 +152,7 @@ pub fn read_words(words: &[String]) -> Result<Command<'_>, WordsFault>
     command_in(words)
 }
 
-/// The number of the first bad word among these, whatever stands behind them. Values that do not go together, and what is
+/// The number of the first bad word among these, whatever stands after them. Values that do not go together, and what is
 /// missing, are no bad words here. It takes no memory.
 #[tactic(auto, unfolding(crate::specs::Jobs::first_bad_in))]
 pub fn first_bad_before(words: &[String]) -> Option<u32>

@@ -94,7 +94,7 @@ impl Tally {
     }
 }
 
-// Puts the finding behind the `used` first ones where there is room, and answers how many are used then.
+// Puts the finding after the `used` first ones where there is room, and answers how many are used then.
 #[tactic(auto, using(crate::proofs::TalliedLaws::keep_one, crate::proofs::TalliedLaws::keep_none))]
 fn keep(places: &mut [Finding], used: usize, finding: Finding) -> usize
     requires whole { length places.old ≡ 64 }

@@ -26,7 +26,7 @@ tested : (t p : Bool) (s : Option (List ℕ)) (x : List ℕ) → s ≡ cond p (S
 tested true p s x e = e
 tested false p s x e = refl
 
--- a word is stripped where the text's front is the word
+-- a word is stripped where the text begins with the word
 pub strip_by : (word text : List ℕ) → strip word text ≡ cond (pointwise eqb (take (length word) text) word) (Some (drop (length word) text)) None
 strip_by [] text = refl
 strip_by (w ∷ word) [] = refl

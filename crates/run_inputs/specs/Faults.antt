@@ -13,7 +13,7 @@ use Rattle.run_inputs.specs.declared.fault.InputFault.TheVariants as fault
 use Rattle.run_inputs.specs.Files.{Names, Comes}
 use Rattle.run_inputs.specs.Given.{Found, Refusal, Absent, ImageTooLong, ScriptTooLong, DiskTooLong, BadImage, BadScript}
 
--- the fault of an image that a fault tells, but for want of memory
+-- the fault of an image that a fault tells, unless there was no memory
 abbrev pub image_fault : ImageFault → Option image_model.Fault
 image_fault (image.Short need) = Some (image_model.Short need)
 image_fault (image.NotThis field) = Some (image_model.NotThis field)
@@ -52,7 +52,7 @@ of_script (script.TooMany line) = fault.Script (script.TooMany line)
 of_script script.NoMemory = fault.NoMemory
 
 -- When each fault comes, from a reader of the files: an absent file or a failure where the count rose or the files tell
--- that one is absent; each other where the definition gives it; want of memory has no cause.
+-- that one is absent; each other where the definition gives it; no memory has no cause.
 abbrev pub HasCause : {Y : Type 0} → (Found → Result Y Refusal) → Option Contents → Names
     → (before now : ℕ) → InputFault → Type 0
 HasCause read content names before now fault.Files =
