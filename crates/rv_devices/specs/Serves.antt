@@ -36,3 +36,14 @@ pub record Serves (script : Script) (words : List DmaWord) (state : model.BoardS
   pub activity_is : activity_of disk.activity disk.pending ≡ state.activity
   pub below : disk.pending.address + (512 - disk.pending.sent) ≤ 2 ^ 32
   pub sending : Sends words disk.sending
+
+-- A command has begun that completes before this step, at the address that the disk was told. All else but its bytes and
+-- the command's is as it was.
+pub record Begins (before : ℕ) (old new : Disk) : Type 0 where
+  pub busy : new.activity ≡ code.Busy before
+  pub to : new.pending.address ≡ old.address
+  pub sectors : new.sectors.items ≡ old.sectors.items
+  pub sector : new.sector ≡ old.sector
+  pub address : new.address ≡ old.address
+  pub control : new.control ≡ old.control
+  pub sending : new.sending ≡ old.sending

@@ -56,7 +56,7 @@ impl Disk {
     ghost use Rattle.machine_model.specs.Board as model;
     ghost use Rattle.machine_model.specs.Board.{BoardState};
     ghost use Rattle.rv_devices.specs.Sends.{unsent};
-    ghost use Rattle.rv_devices.specs.Serves.{Serves, NotBefore, activity_of};
+    ghost use Rattle.rv_devices.specs.Serves.{Begins, NotBefore, Serves, activity_of};
 
     /// The disk of these bytes at reset.
     pub fn new(bytes: Vec<u8>, sectors: Vec<Span>) -> Disk
@@ -171,17 +171,11 @@ impl Disk {
     // Begins to read: keeps the words of the sector until the command completes.
     fn read(&mut self, before: u64)
         requires { self.old.sector < model.sector_count self.old.bytes.items }
+        ensures begins { Begins before self.old self.new }
         ensures bytes { self.new.bytes.items ≡ self.old.bytes.items }
-        ensures sectors { self.new.sectors.items ≡ self.old.sectors.items }
-        ensures sector { self.new.sector ≡ self.old.sector }
-        ensures address { self.new.address ≡ self.old.address }
-        ensures control { self.new.control ≡ self.old.control }
-        ensures sending { self.new.sending ≡ self.old.sending }
         ensures kept { self.new.pending.bytes
             ≡ take 512 (drop (512 * self.old.sector) self.old.bytes.items) }
         ensures sent { self.new.pending.sent ≡ 0 }
-        ensures to { self.new.pending.address ≡ self.old.address }
-        ensures busy { self.new.activity ≡ Activity.Busy before }
         ensures mark { self.new.pending.mark
             ≡ (if list_any (model.holds_sector self.old.sector) self.old.sectors.items then 1 else 0) }
     {
@@ -202,17 +196,11 @@ impl Disk {
     fn write(&mut self, before: u64, ram: &Ram)
         requires sector { self.old.sector < model.sector_count self.old.bytes.items }
         requires held { InRam (length ram.now) self.old.address 512 }
+        ensures begins { Begins before self.old self.new }
         ensures bytes { self.new.bytes.items
             ≡ placed self.old.bytes.items (512 * self.old.sector)
             (take 512 (drop (self.old.address - RAM_START) ram.now)) }
-        ensures sectors { self.new.sectors.items ≡ self.old.sectors.items }
-        ensures sector { self.new.sector ≡ self.old.sector }
-        ensures address { self.new.address ≡ self.old.address }
-        ensures control { self.new.control ≡ self.old.control }
-        ensures sending { self.new.sending ≡ self.old.sending }
-        ensures busy { self.new.activity ≡ Activity.Busy before }
         ensures sent { self.new.pending.sent ≡ 512 }
-        ensures to { self.new.pending.address ≡ self.old.address }
     {
         let at = SECTOR_BYTES * self.sector as usize;
         self.bytes[at..at + SECTOR_BYTES].copy_from_slice(ram.bytes(self.address, 512));
