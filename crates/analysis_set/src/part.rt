@@ -24,14 +24,8 @@ pub fn report_part<O: Sink>(analysis: &AnyAnalysis, out: &mut O) -> Result<(), F
 {
     let kind = analysis.kind();
     let counted = lines::findings(kind, analysis.count(), analysis.first());
-    match out.put(counted.as_bytes()) {
-        Ok(()) => {}
-        Err(failed) => return Err(failed),
-    }
-    match put_more(analysis, out) {
-        Ok(()) => {}
-        Err(failed) => return Err(failed),
-    }
+    out.put(counted.as_bytes())?;
+    put_more(analysis, out)?;
     put_findings(kind, analysis.kept(), out)
 }
 
@@ -58,10 +52,7 @@ fn cover_more<O: Sink>(coverage: &Coverage, out: &mut O) -> Result<(), Failed>
     ensures err { OnErr result (WritesPart O.told out.old out.new
         (ranges_text (length (pcs_now coverage.now)) (ranges_now coverage.now))) }
 {
-    match out.put(lines::pcs(coverage.pcs(), coverage.ranges()).as_bytes()) {
-        Ok(()) => {}
-        Err(failed) => return Err(failed),
-    }
+    out.put(lines::pcs(coverage.pcs(), coverage.ranges()).as_bytes())?;
     put_ranges(coverage, out)
 }
 
@@ -73,10 +64,7 @@ fn put_ranges<O: Sink>(coverage: &Coverage, out: &mut O) -> Result<(), Failed>
         (flat_map range_line (take 64 (ranges_now coverage.now)))) }
 {
     for index in 0..coverage.ranges().min(64) {
-        match out.put(shown_range(coverage, index).as_bytes()) {
-            Ok(()) => {}
-            Err(failed) => return Err(failed),
-        }
+        out.put(shown_range(coverage, index).as_bytes())?;
     }
     Ok(())
 }
