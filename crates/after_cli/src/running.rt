@@ -40,10 +40,7 @@ fn report_parts<O: Sink>(closing: &Closing, count: u32, out: &mut O) -> Result<(
         (flat_map (part_text (guest job) (events job)) job.kinds)) }
 {
     for replica in 0..count {
-        match report_part(closing.analysis(replica), out) {
-            Ok(()) => {}
-            Err(failed) => return Err(failed),
-        }
+        report_part(closing.analysis(replica), out)?;
     }
     Ok(())
 }
@@ -63,14 +60,8 @@ fn write_report<O: Sink>(
         WritesPart O.told out.old out.new (head_text (facts_of facts.now)
         ++ flat_map (part_text (guest job) (events job)) job.kinds)) }
 {
-    match report_head(facts, out) {
-        Ok(()) => {}
-        Err(failed) => return Err(failed),
-    }
-    match report_parts(closing, count, out) {
-        Ok(()) => Ok(()),
-        Err(failed) => Err(failed),
-    }
+    report_head(facts, out)?;
+    report_parts(closing, count, out)
 }
 
 // Whether one of so many analyses, which are all, has a finding.
@@ -111,10 +102,7 @@ fn tell<O: Sink>(closing: &Closing, count: u32, out: &mut O) -> Result<u8, Faile
     let Some(facts) = closing.facts() else {
         unreachable!()
     };
-    match write_report(&facts, closing, count, out) {
-        Ok(()) => {}
-        Err(failed) => return Err(failed),
-    }
+    write_report(&facts, closing, count, out)?;
     Ok(status_number(facts.end, has_finding(closing, count)))
 }
 
