@@ -33,23 +33,13 @@ coming script Over left step lines s b words = []
 
 -- words are due in one phase alone
 abbrev pub MayBeDue : Phase → List DmaWord → Type 0
-MayBeDue Between words = words ≡ []
 MayBeDue Words words = Unit {0}
-MayBeDue Lines words = words ≡ []
-MayBeDue Need words = words ≡ []
-MayBeDue (Given supplied) words = words ≡ []
-MayBeDue (Ending cause) words = words ≡ []
-MayBeDue Over words = words ≡ []
+MayBeDue _ words = words ≡ []
 
 -- the lines that are told are those of the board
 abbrev pub HasTold : Phase → (lines shown : ℕ) → Type 0
-HasTold Between lines shown = Unit {0}
-HasTold Words lines shown = Unit {0}
-HasTold Lines lines shown = Unit {0}
 HasTold Need lines shown = shown ≡ lines
-HasTold (Given supplied) lines shown = Unit {0}
-HasTold (Ending cause) lines shown = Unit {0}
-HasTold Over lines shown = Unit {0}
+HasTold _ lines shown = Unit {0}
 
 -- A hart and a board in a phase of a step, with so many steps left after the one that has begun, and these lines held:
 -- the board gives RAM what it may take, and these items are still to come.
