@@ -28,11 +28,9 @@ moves_by link.Pop next = Pop ∷ []
 moves_by link.PopPush next = Push next ∷ Pop ∷ []
 
 abbrev pub moves_of : Event → List Move
-moves_of (Dma step address word mark) = []
-moves_of (Irq step pc cause next) = []
-moves_of (Trap step pc word cause value next) = []
 moves_of (Exec step pc word next result access told) =
     moves_by (link_as (instruction word)) (pc + 4)
+moves_of _ = []
 
 -- the moves of a context in these events, the newest first
 abbrev pub moves_in : ℕ → List Event → List Move
@@ -59,10 +57,8 @@ has_pop link.PopPush = true
 
 -- an event that pops
 abbrev pub is_return : Event → Bool
-is_return (Dma step address word mark) = false
-is_return (Irq step pc cause next) = false
-is_return (Trap step pc word cause value next) = false
 is_return (Exec step pc word next result access told) = has_pop (link_as (instruction word))
+is_return _ = false
 
 -- where an executed instruction leads
 abbrev pub next_of : Event → ℕ

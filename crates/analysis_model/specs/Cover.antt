@@ -11,10 +11,8 @@ use Rattle.analysis_model.specs.Look.{Complaint}
 
 -- the pc of an executed instruction
 abbrev pub executed_pc : Event → Option ℕ
-executed_pc (Dma step address word mark) = None
-executed_pc (Irq step pc cause next) = None
-executed_pc (Trap step pc word cause value next) = None
 executed_pc (Exec step pc word next result access told) = Some pc
+executed_pc _ = None
 
 -- the distinct pc values of a run, ascending
 abbrev pub executed_pcs : List Event → List ℕ

@@ -6,7 +6,7 @@ use Rattle.run_events.specs.declared.access.Access.{Access}
 use Rattle.run_events.specs.declared.announcement.Announcement.{Announcement}
 use Rattle.run_events.specs.declared.announcement.Announcement.TheVariants.{Allocate, Free}
 use Rattle.run_events.specs.declared.event.Event.{Event}
-use Rattle.run_events.specs.declared.event.Event.TheVariants.{Dma, Irq, Trap, Exec}
+use Rattle.run_events.specs.declared.event.Event.TheVariants.{Exec}
 use Rattle.run_events.specs.declared.finding.FindingKind.{FindingKind}
 use Rattle.run_events.specs.declared.finding.FindingKind.TheVariants as finding
 use Rattle.run_events.specs.Access.{touched_from, touched_len, is_of_device}
@@ -79,11 +79,9 @@ free kib use_of _ = None
 
 -- what there is to complain of an event, where bytes have these uses before it
 abbrev pub heap_by : ℕ → (ℕ → ByteUse) → Event → Option Complaint
-heap_by kib use_of (Dma step address word mark) = None
-heap_by kib use_of (Irq step pc cause next) = None
-heap_by kib use_of (Trap step pc word cause value next) = None
 heap_by kib use_of (Exec step pc word next result access told) =
     option_or (free kib use_of (announced_by word told)) (touch use_of access)
+heap_by kib use_of _ = None
 
 -- of a RAM of so many KiB: an access that touches a red or a freed byte, and the freeing of bytes that were not live
 abbrev pub heap : ℕ → List Event → Event → Option Complaint

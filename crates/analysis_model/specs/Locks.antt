@@ -7,7 +7,7 @@ use Rattle.run_events.specs.declared.access.Access.{Access}
 use Rattle.run_events.specs.declared.announcement.Announcement.{Announcement}
 use Rattle.run_events.specs.declared.announcement.Announcement.TheVariants as announce
 use Rattle.run_events.specs.declared.event.Event.{Event}
-use Rattle.run_events.specs.declared.event.Event.TheVariants.{Dma, Irq, Trap, Exec}
+use Rattle.run_events.specs.declared.event.Event.TheVariants.{Exec}
 use Rattle.run_events.specs.declared.finding.FindingKind.TheVariants as finding
 use Rattle.run_events.specs.Access.{touched_from, touched_len}
 use Rattle.run_events.specs.Announcement.{announced_by, announced}
@@ -108,12 +108,10 @@ lock_by counts context holder _ = None
 
 -- what there is to complain of an event in a context, where these locks count, have these holders and guard these ranges
 abbrev pub locks_by : (ℕ → Bool) → ℕ → (ℕ → Option ℕ) → List Guarded → Event → Option Complaint
-locks_by counts context holder ranges (Dma step address word mark) = None
-locks_by counts context holder ranges (Irq step pc cause next) = None
-locks_by counts context holder ranges (Trap step pc word cause value next) = None
 locks_by counts context holder ranges (Exec step pc word next result access told) =
     option_or (lock_by counts context holder (announced_by word told))
     (access_by context holder ranges access)
+locks_by counts context holder ranges _ = None
 
 -- where so many locks and ranges count: an access to a guarded byte without its lock, an acquire of a held lock, and a
 -- release of one that is not held

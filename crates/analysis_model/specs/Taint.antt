@@ -223,11 +223,9 @@ leak kib marks _ = None
 
 -- what there is to complain of an event, where places have these marks before it
 abbrev pub taint_by : ℕ → (Place → ℕ) → Event → Option Complaint
-taint_by kib marks (Dma step address word mark) = None
-taint_by kib marks (Irq step pc cause next) = None
-taint_by kib marks (Trap step pc word cause value next) = None
 taint_by kib marks (Exec step pc word next result access told) =
     option_or (jump marks (instruction word) next) (leak kib marks (announced_by word told))
+taint_by kib marks _ = None
 
 -- of a RAM of so many KiB: a jump to a marked address, and a marked byte where all must be unmarked
 abbrev pub taint : ℕ → List Event → Event → Option Complaint

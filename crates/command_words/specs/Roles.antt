@@ -2,7 +2,7 @@
 use Rattle.std.specs.Prelude.{ℕ, ◌+◌, ◌==◌, Bool, true, false, not, ◌&&◌, nat_lt, if◌then◌else◌, List, [], ◌∷◌, ◌++◌, length, Option, Some, None, is_none, is_some}
 use Rattle.std.specs.List.{list_any}
 use Rattle.command_words.specs.declared.table.CommandName.{CommandName}
-use Rattle.command_words.specs.declared.table.CommandName.TheVariants.{Run, Record, Analyze, Show, Load}
+use Rattle.command_words.specs.declared.table.CommandName.TheVariants.{Load}
 use Rattle.command_words.specs.declared.table.Setting.{Setting}
 use Rattle.command_words.specs.Table.{belongs, place, plain_count, setting_named}
 use Rattle.command_words.specs.Values.{◌>>=◌, is_option, is_plain, is_value, seed_in, size_in}
@@ -67,12 +67,9 @@ option_of command stood word =
 
 -- the plain words of a made guest are numbers: the first any of 32 bits, the second its size
 abbrev pub meets_plain : CommandName → ℕ → List ℕ → Bool
-meets_plain Run before word = true
-meets_plain Record before word = true
-meets_plain Analyze before word = true
-meets_plain Show before word = true
 meets_plain Load before word =
     if before == 0 then is_some (seed_in word) else is_some (size_in word)
+meets_plain _ before word = true
 
 -- whether a plain word may stand after so many others
 unfoldable pub may_stand : CommandName → ℕ → List ℕ → Bool

@@ -57,7 +57,4 @@ IsJudgedAs judged (Err (fault.Image e)) =
 IsJudgedAs judged (Err (fault.Script e)) =
     (k : ℕ × script_model.Broken) × (script_fault e ≡ Some k) × (judged ≡ Err (BadScript k))
 IsJudgedAs judged (Err fault.NoMemory) = Unit {0}
-IsJudgedAs judged (Err fault.Files) = ⊥
-IsJudgedAs judged (Err fault.ImageTooLong) = ⊥
-IsJudgedAs judged (Err fault.ScriptTooLong) = ⊥
-IsJudgedAs judged (Err fault.DiskTooLong) = ⊥
+IsJudgedAs judged _ = ⊥
