@@ -55,15 +55,15 @@ abbrev pub with_room : ℕ → Kept → Kept
 with_room bytes entry = record { name = entry.name; file = entry.file; room = max entry.room bytes }
 
 -- an empty file
-abbrev pub begun : Kept → Kept
-begun entry = record { name = entry.name; file = Some []; room = entry.room }
+abbrev pub with_no_bytes : Kept → Kept
+with_no_bytes entry = record { name = entry.name; file = Some []; room = entry.room }
 
 abbrev pub bytes_of : Kept → List ℕ
 bytes_of entry = unwrap_or entry.file []
 
 -- a file with the part of the piece that fits at its end
-abbrev pub appended : List ℕ → Kept → Kept
-appended piece entry = record {
+abbrev pub with_piece : List ℕ → Kept → Kept
+with_piece piece entry = record {
   name = entry.name;
   file = Some (bytes_of entry ++ take (entry.room - length (bytes_of entry)) piece);
   room = entry.room;
@@ -79,8 +79,8 @@ HasRoom None bytes = ⊥
 HasRoom (Some entry) bytes = bytes ≤ entry.room
 
 -- a file with these bytes, and room for them
-abbrev pub filled : List ℕ → Kept → Kept
-filled bytes entry = record {
+abbrev pub with_bytes : List ℕ → Kept → Kept
+with_bytes bytes entry = record {
   name = entry.name;
   file = Some bytes;
   room = max entry.room (length bytes);
@@ -98,7 +98,7 @@ room_after s text bytes = record {
 -- the files after a name got these bytes
 abbrev pub set_after : FilesState → List ℕ → List ℕ → FilesState
 set_after s text bytes = record {
-  entries = changed_or_added (filled bytes) (filled bytes (with_no_file text 0)) text s.entries;
+  entries = changed_or_added (with_bytes bytes) (with_bytes bytes (with_no_file text 0)) text s.entries;
   plan = s.plan;
   calls = s.calls;
   faults = s.faults;
@@ -142,7 +142,7 @@ begin_fails s text = is_planned s || is_none (entry_of s.entries text)
 -- the files after a begin
 abbrev pub begin_after : FilesState → List ℕ → FilesState
 begin_after s text =
-    call_after s (if is_planned s then s.entries else changed begun text s.entries)
+    call_after s (if is_planned s then s.entries else changed with_no_bytes text s.entries)
     (begin_fails s text)
 
 -- the piece passes the room of the name, which may have none
@@ -157,5 +157,5 @@ append_fails s text piece = is_planned s || has_no_place piece (entry_of s.entri
 -- the files after an append
 abbrev pub append_after : FilesState → List ℕ → List ℕ → FilesState
 append_after s text piece =
-    call_after s (if is_planned s then s.entries else changed (appended piece) text s.entries)
+    call_after s (if is_planned s then s.entries else changed (with_piece piece) text s.entries)
     (append_fails s text piece)
