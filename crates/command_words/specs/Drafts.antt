@@ -31,7 +31,7 @@ pub record Holds (words : List Role) (draft : Draft) : Type 0 where
   pub closed : ends_open false words ≡ false
 
 -- the words from an index on were read up to the next, and none of them is bad
-pub record Advances (command : CommandName) (words : List (List ℕ)) (before : List Role)
+pub record ReadsOn (command : CommandName) (words : List (List ℕ)) (before : List Role)
     (index next : ℕ) (draft : Draft) : Type 0 where
   pub part : List Role
   pub further : index < next

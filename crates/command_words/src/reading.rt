@@ -1,9 +1,9 @@
 //! Reading words, one after another.
 ghost use Rattle.std.specs.Prelude.{◌≡◌, ◌+◌, ◌<◌, ◌≤◌, List, [], drop, length, map, slice_index_or, string_bytes, Some, None, is_some, OnOk, Err, IfOk, IfErr};
 ghost use Rattle.command_words.specs.declared.fault.WordsFault.TheVariants.{Missing};
-ghost use Rattle.command_words.specs.Drafts.{Advances, Holds, IsDraft, Refuses, held, spent};
+ghost use Rattle.command_words.specs.Drafts.{ReadsOn, Holds, IsDraft, Refuses, held, spent};
 ghost use Rattle.command_words.specs.Jobs.{first_bad_in, job_in, read_as};
-ghost use Rattle.command_words.specs.Sound.{IsSound};
+ghost use Rattle.command_words.specs.Sound.{IsSoundJob};
 ghost use Rattle.command_words.specs.Says.{GivesJob, says};
 ghost use Rattle.command_words.specs.Roles.{Role, ends_open, may_stand, meets_plain, option_of, roles};
 
@@ -67,7 +67,7 @@ fn take_next<'a>(
     ensures few { IfOk result (λ next. next ≤ spent draft.new) }
     ensures short { result ≡ Err Missing → length words.now ≤ index + 1 }
     ensures next { IfOk result (λ next. (before : List Role) → Holds before draft.old
-        → Advances command (map string_bytes words.now) before index next draft.new) }
+        → ReadsOn command (map string_bytes words.now) before index next draft.new) }
     ensures refused { IfErr result (λ fault. (before : List Role) → Holds before draft.old
         → Refuses command before
         (roles (index + 2) None (drop index (map string_bytes words.now))) fault) }
@@ -147,7 +147,7 @@ fn command_in(words: &[String]) -> Result<Command<'_>, WordsFault>
 #[tactic(auto, using(crate::proofs::SoundLaws::sound_of))]
 pub fn read_words(words: &[String]) -> Result<Command<'_>, WordsFault>
     ensures exact { GivesJob result (job_in (map string_bytes words.now)) }
-    ensures sound { IfOk result (λ command. IsSound (says command)) }
+    ensures sound { IfOk result (λ command. IsSoundJob (says command)) }
 {
     command_in(words)
 }
