@@ -1,6 +1,5 @@
 -- What an answer means, the call comes to.
-use Rattle.std.proofs.Common.{◌≡◌, inl, inr, ℕ, List, Option, Some, None, refl, ap, sym, subst}
-use Rattle.after_edge.specs.Sink.{Telling}
+use Rattle.std.proofs.Common.{◌≡◌, inl, inr, ℕ, ap, sym, subst}
 use Rattle.after_cli.specs.declared.top.Answer.{Answer}
 use Rattle.after_cli.specs.declared.top.Answer.TheVariants.{Done, OutputFailed, Refused}
 use Rattle.after_cli.specs.declared.top.Outcome.{Outcome}

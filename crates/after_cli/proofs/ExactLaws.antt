@@ -1,5 +1,5 @@
--- Where the files tell what they are, and neither they nor the output fail, a call comes to one thing, or to want of memory.
-use Rattle.std.proofs.Common.{◌≡◌, ℕ, ◌<◌, Bool, true, false, ltb, List, Option, Some, Result, Ok, Err, inl, inr, refl, sym, ap, subst, ◌∙◌, arith}
+-- Where the files tell what they are, and neither they nor the output fail, a call comes to one thing, or to no memory.
+use Rattle.std.proofs.Common.{◌≡◌, ℕ, false, ltb, List, Some, Result, Ok, Err, inl, inr, sym, ap, subst, ◌∙◌, arith}
 use Rattle.std.proofs.lemmas.Bool.{lt-ltb, le-ltb}
 use Rattle.after_edge.specs.Fault.{Rose}
 use Rattle.after_edge.specs.Files.{Contents}
@@ -17,9 +17,9 @@ use Rattle.run_inputs.specs.Files.{Comes}
 use Rattle.run_inputs.specs.Given.{Given, inputs_in}
 use Rattle.run_inputs.specs.Given as given
 use Rattle.after_cli.specs.declared.top.Outcome.{Outcome}
-use Rattle.after_cli.specs.Asked.{AsksForMore, IsAsked, IsMore, job_for, names_of}
-use Rattle.after_cli.specs.Ends.{Call, Ends, HasReason, IsCutOff, IsDone, IsRefused}
-use Rattle.after_cli.specs.Exact.{IsRight, IsRightBy, IsRightRun, found_in, refused_status}
+use Rattle.after_cli.specs.Asked.{IsAsked, IsMore, job_for, names_of}
+use Rattle.after_cli.specs.Ends.{Call, Ends, HasReason, IsDone}
+use Rattle.after_cli.specs.Exact.{IsRight, IsRightBy, found_in}
 use Rattle.after_cli.proofs.FileLaws.{Refuses, For, NoMemory, one_answer, one_fault}
 
 module _ {O : Type 0} (out : Telling O) (old new : O) (outcome : Outcome) (told : Contents) where

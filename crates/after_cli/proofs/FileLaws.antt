@@ -1,13 +1,12 @@
 -- Files that tell what they are give one answer.
-use Rattle.std.proofs.Common.{◌≡◌, ℕ, ◌<◌, ◌≤◌, List, [], Option, Some, None, Result, Ok, Err, refl, sym, ap, subst, ◌∙◌, arith, inl, inr}
-use Rattle.std.specs.Prelude.{IsSome}
+use Rattle.std.proofs.Common.{◌≡◌, ℕ, List, Option, Some, None, Result, Err, refl, sym, ap, ◌∙◌, inl, inr}
 use Rattle.after_edge.specs.Fault.{Rose}
 use Rattle.after_edge.specs.Files.{Contents}
 use Rattle.run_inputs.specs.declared.fault.InputFault.{InputFault}
 use Rattle.run_inputs.specs.declared.fault.InputFault.TheVariants as fault
 use Rattle.run_inputs.specs.Faults.{HasCause}
 use Rattle.run_inputs.specs.Files.{Names, AreFound, IsDiskFound, Comes}
-use Rattle.run_inputs.specs.Given.{Found, Given, Refusal, Absent, ImageTooLong, ScriptTooLong, DiskTooLong, BadImage, BadScript, inputs_in}
+use Rattle.run_inputs.specs.Given.{Found, Refusal, Absent, ImageTooLong, ScriptTooLong, DiskTooLong, BadImage, BadScript}
 use Rattle.refusals.specs.Status.{input_status}
 use Rattle.after_cli.specs.Exact.{disk_in, found_in, refused_status}
 
@@ -23,7 +22,7 @@ module _ (told : Contents) (names : Names) where
   pub one_answer : {Y : Type 0} (read : Found → Result Y Refusal) (answer : Result Y Refusal) → Comes read (Some told) names answer → read (found_in told names) ≡ answer
   one_answer read answer comes = ap read (one_found comes.found comes.are) ∙ comes.gives
 
-  -- a fault, where the count stays, is that of the definition, or want of memory
+  -- a fault, where the count stays, is that of the definition, or no memory
   pub data Refuses {Y : Type 0} (read : Found → Result Y Refusal) (status : ℕ) : Type 0 where
     For : (refusal : Refusal) → read (found_in told names) ≡ Err refusal → status ≡ refused_status refusal → Refuses read status
     NoMemory : status ≡ 9 → Refuses read status

@@ -4,4 +4,3 @@ pub mod FileLaws
 pub mod LogSizes
 pub mod ReleaseLaws
 pub mod ReportLaws
-mod AskedLaws

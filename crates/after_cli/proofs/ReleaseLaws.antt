@@ -1,7 +1,6 @@
--- What is let out of a front of a job's records is a front of what the job lets out.
-use Rattle.std.proofs.Common.{◌≡◌, ℕ, List, [], ◌∷◌, ◌++◌, map, take, drop, refl, sym, ap, subst, ◌∙◌}
-use Rattle.std.specs.Prelude.{filter, nat_lt}
-use Rattle.std.specs.List.{filter_map}
+-- What is let out of a prefix of a job's records is a prefix of what the job lets out.
+use Rattle.std.proofs.Common.{ℕ, List, take, sym, ap, subst, ◌∙◌}
+use Rattle.std.specs.Prelude.{nat_lt}
 use Rattle.std.proofs.lemmas.List.Elements.{filter-append, filter_map-append}
 use Rattle.list_laws.specs.Prefix.{IsPrefix}
 use Rattle.list_laws.proofs.PrefixLaws.{IsPrefix-map, IsPrefix-trans, take_IsPrefix}
@@ -12,7 +11,7 @@ use Rattle.job_model.specs.Job.{Job, events, finished, released_bytes, stop}
 use Rattle.job_model.proofs.RunLaws.{job_output}
 use Rattle.machine_model.specs.Board.{AreMarked}
 
--- a front of some items has a front of their bytes, of which less goes out
+-- a prefix of some items has a prefix of their bytes, of which less goes out
 front_bytes : (front whole : List Item) → IsPrefix front whole → IsPrefix (bytes_of front) (bytes_of whole)
 front_bytes front whole is = record { rest = bytes_of is.rest; joined = sym (filter_map-append byte_of front is.rest) ∙ ap bytes_of is.joined }
 

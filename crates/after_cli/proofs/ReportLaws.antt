@@ -1,19 +1,17 @@
 -- What the analyses of a run that went to its end tell of its job.
-use Rattle.std.proofs.Common.{◌≡◌, ℕ, ◌+◌, ◌<◌, ◌≤◌, Bool, true, false, ◌||◌, List, [], ◌∷◌, ◌++◌, length, map, take, Option, Some, None, refl, sym, ap, subst, ◌∙◌, arith, append-nil}
-use Rattle.std.specs.Prelude.{is_some, option_map, slice_get}
+use Rattle.std.proofs.Common.{◌≡◌, ℕ, ◌+◌, ◌<◌, Bool, true, false, ◌||◌, List, [], ◌∷◌, ◌++◌, length, take, Some, refl, sym, ap, subst, ◌∙◌, arith, append-nil}
+use Rattle.std.specs.Prelude.{slice_get}
 use Rattle.std.specs.List.{flat_map, list_any}
 use Rattle.std.proofs.lemmas.Grind.{flat_map-append}
 use Rattle.std.proofs.lemmas.List.{take_all}
 use Rattle.std.proofs.lemmas.List.Folds.{list_any-append}
-use Rattle.std.proofs.lemmas.Option.{same_Some}
 use Rattle.list_laws.specs.Prefix.{IsPrefix}
 use Rattle.list_laws.proofs.PlaceLaws.{there_within}
 use Rattle.list_laws.proofs.PrefixLaws.{take-next, take_IsPrefix}
-use Rattle.run_events.specs.declared.event.Event.{Event}
 use Rattle.run_events.specs.declared.finding.Kind.{Kind}
 use Rattle.analysis_model.specs.Complaints.{findings}
 use Rattle.analysis_model.specs.Findings.{first_step}
-use Rattle.analysis_model.specs.Made.{make_of, guest_of, kind_made_of}
+use Rattle.analysis_model.specs.Made.{make_of, guest_of}
 use Rattle.analysis_model.specs.Report.{part_text}
 use Rattle.analysis_set.specs.declared.any_analysis.AnyAnalysis.{AnyAnalysis}
 use Rattle.analysis_set.specs.Analysis.{HasSeen, findings_made, kib_of, made_of, part_made}

@@ -2,7 +2,7 @@
 use Rattle.std.specs.Prelude.{◌≡◌, ℕ, ◌<◌, List, Option, Result, Ok, Err}
 use Rattle.after_edge.specs.Files.{Contents}
 use Rattle.command_words.specs.declared.fault.WordsFault.{WordsFault}
-use Rattle.command_words.specs.Jobs.{RunJob, Run, Record, Analyze, Show, Load, job_in}
+use Rattle.command_words.specs.Jobs.{RunJob, Run, job_in}
 use Rattle.command_words.specs.Jobs as words
 use Rattle.refusals.specs.declared.refusal.Refusal.{Refusal}
 use Rattle.refusals.specs.declared.refusal.Refusal.TheVariants as refusal
@@ -39,10 +39,7 @@ AreNoJob words = (fault : WordsFault) × (job_in words ≡ Err fault)
 -- the words are a job that is not built: one of another command, or with threads
 abbrev pub IsMore : Result words.Job WordsFault → Type 0
 IsMore (Ok (Run run)) = 0 < run.threads
-IsMore (Ok (Record job)) = Unit {0}
-IsMore (Ok (Analyze job)) = Unit {0}
-IsMore (Ok (Show job)) = Unit {0}
-IsMore (Ok (Load job)) = Unit {0}
+IsMore (Ok _) = Unit {0}
 IsMore (Err fault) = ⊥
 
 abbrev pub AsksForMore : List (List ℕ) → Type 0

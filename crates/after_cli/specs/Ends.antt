@@ -33,12 +33,14 @@ pub record Call (O E : Type 0) : Type 1 where
 abbrev pub TellsLine : {E : Type 0} → Telling E → E → E → List ℕ → Type 0
 TellsLine sink old new told = Writes sink old new told ⊎ WritesPart sink old new told
 
--- Why a call does nothing: the words are no job; they ask for what is not built; or the files of a run are not taken. Want
--- of memory has no cause, and comes only where a run is asked for.
+-- Why a call does nothing: the words are no job; they ask for what is not built; or the files of a run are not taken. No
+-- memory has no cause, and comes only where a run is asked for.
 abbrev pub HasReason : Option Contents → List (List ℕ) → (before now : ℕ) → Refusal → Type 0
 HasReason content words before now (refusal.Words fault) = job_in words ≡ Err fault
 HasReason content words before now refusal.NotBuilt = AsksForMore words
-HasReason content words before now (refusal.Inputs fault) = (run : RunJob) × IsAsked words run × HasCause (inputs_in run.ram_kib) content (names_of run) before now fault
+HasReason content words before now (refusal.Inputs fault) =
+    (run : RunJob) × IsAsked words run
+    × HasCause (inputs_in run.ram_kib) content (names_of run) before now fault
 HasReason content words before now refusal.NoMemory = (run : RunJob) × IsAsked words run
 
 -- A run was done: the bytes added to the output are the text of its job, no more and no less, the status is the job's, and

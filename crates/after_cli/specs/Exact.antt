@@ -17,7 +17,11 @@ disk_in files None = Some []
 disk_in files (Some name) = files name
 
 abbrev pub found_in : Contents → Names → Found
-found_in files names = record { image = files names.image; script = files names.script; disk = disk_in files names.disk }
+found_in files names = record {
+  image = files names.image;
+  script = files names.script;
+  disk = disk_in files names.disk;
+}
 
 -- the status of files that are not taken
 abbrev pub refused_status : Refusal → ℕ
@@ -29,13 +33,18 @@ refused_status (BadImage fault) = 3
 refused_status (BadScript fault) = 4
 
 module _ {O : Type 0} (out : Telling O) (old new : O) (outcome : Outcome) where
-  -- of a run whose files give this: its whole text and its status, or the status of what refuses them; or want of memory
+  -- of a run whose files give this: its whole text and its status, or the status of what refuses them; or no memory
   abbrev pub IsRightBy : RunJob → Result Given Refusal → Type 0
-  IsRightBy run (Ok given) = (outcome.status ≡ 9) ⊎ (Writes out old new (text (job_for run given)) × (outcome.status ≡ status (job_for run given)))
+  IsRightBy run (Ok given) =
+      (outcome.status ≡ 9)
+      ⊎ (Writes out old new (text (job_for run given))
+      × (outcome.status ≡ status (job_for run given)))
   IsRightBy run (Err refusal) = (outcome.status ≡ 9) ⊎ (outcome.status ≡ refused_status refusal)
 
   abbrev pub IsRightRun : Contents → RunJob → Type 0
-  IsRightRun files run = MatchBool (nat_lt 0 run.threads) (outcome.status ≡ 10) (IsRightBy run (inputs_in run.ram_kib (found_in files (names_of run))))
+  IsRightRun files run =
+      MatchBool (nat_lt 0 run.threads) (outcome.status ≡ 10)
+      (IsRightBy run (inputs_in run.ram_kib (found_in files (names_of run))))
 
   -- of words that are this, over files that are these
   abbrev pub IsRight : Contents → Result words.Job WordsFault → Type 0

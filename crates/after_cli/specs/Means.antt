@@ -23,14 +23,15 @@ answer_of (end.Done status closing) = Done status closing
 answer_of (end.OutputFailed closing) = OutputFailed closing
 answer_of end.NoMemory = Refused NoMemory
 
-module _ {O : Type 0} (content : Option Contents) (words : List (List ℕ)) (before now : ℕ) (out : Telling O) (old new : O) where
+module _ {O : Type 0} (content : Option Contents) (words : List (List ℕ)) (before now : ℕ)
+    (out : Telling O) (old new : O) where
   -- a run of some job was done, or its output failed
   pub record HasDone (number : ℕ) (closing : Closing) : Type 0 where
     pub job : Job
     pub run : IsRunOf content words job
     pub done : IsDoneJob out old new job number closing
 
-  pub record HasBroken (closing : Closing) : Type 0 where
+  pub record HasLostOutput (closing : Closing) : Type 0 where
     pub job : Job
     pub run : IsRunOf content words job
     pub failed : HasFailedOutput out old new job closing
@@ -38,16 +39,24 @@ module _ {O : Type 0} (content : Option Contents) (words : List (List ℕ)) (bef
   -- what an answer says of the words, the files and the output
   abbrev pub Means : Answer → Type 0
   Means (Done status closing) = HasDone status closing
-  Means (OutputFailed closing) = HasBroken closing
+  Means (OutputFailed closing) = HasLostOutput closing
   Means (Refused refusal) = HasReason content words before now refusal × (new ≡ old)
 
 -- how a call with an answer ends: its status and closing, and what is told of errors
 abbrev pub Concludes : {E : Type 0} → Answer → Telling E → (old new : E) → Outcome → Type 0
-Concludes (Done number closing) err old new outcome = (outcome ≡ record { status = number; closing = Some closing }) × (new ≡ old)
-Concludes (OutputFailed closing) err old new outcome = (outcome ≡ record { status = 6; closing = Some closing }) × TellsLine err old new output_failed_line
-Concludes (Refused refusal) err old new outcome = (outcome ≡ record { status = status_of refusal; closing = None }) × TellsLine err old new (refusal_line refusal)
+Concludes (Done number closing) err old new outcome =
+    (outcome ≡ record { status = number; closing = Some closing }) × (new ≡ old)
+Concludes (OutputFailed closing) err old new outcome =
+    (outcome ≡ record { status = 6; closing = Some closing })
+    × TellsLine err old new output_failed_line
+Concludes (Refused refusal) err old new outcome =
+    (outcome ≡ record { status = status_of refusal; closing = None })
+    × TellsLine err old new (refusal_line refusal)
 
 -- the same of a text that stands for itself
-abbrev pub IsShown : {E : Type 0} → Result (Unit {0}) Failed → Telling E → (old new : E) → Outcome → Type 0
-IsShown (Ok shown) err old new outcome = (outcome ≡ record { status = 0; closing = None }) × (new ≡ old)
-IsShown (Err failed) err old new outcome = (outcome ≡ record { status = 6; closing = None }) × TellsLine err old new output_failed_line
+abbrev pub ShowsText : {E : Type 0} → Result (Unit {0}) Failed → Telling E → (old new : E) → Outcome
+    → Type 0
+ShowsText (Ok shown) err old new outcome =
+    (outcome ≡ record { status = 0; closing = None }) × (new ≡ old)
+ShowsText (Err failed) err old new outcome =
+    (outcome ≡ record { status = 6; closing = None }) × TellsLine err old new output_failed_line

@@ -36,13 +36,11 @@ fn report_parts<O: Sink>(closing: &Closing, count: u32, out: &mut O) -> Result<(
     ensures ok { OnOk result ((job : Job) → IsWholeRun job closing.now →
         Writes O.told out.old out.new (flat_map (part_text (guest job) (events job)) job.kinds)) }
     ensures err { OnErr result ((job : Job) → IsWholeRun job closing.now →
-        WritesPart O.told out.old out.new (flat_map (part_text (guest job) (events job)) job.kinds)) }
+        WritesPart O.told out.old out.new
+        (flat_map (part_text (guest job) (events job)) job.kinds)) }
 {
     for replica in 0..count {
-        match report_part(closing.analysis(replica), out) {
-            Ok(()) => {}
-            Err(failed) => return Err(failed),
-        }
+        report_part(closing.analysis(replica), out)?;
     }
     Ok(())
 }
@@ -55,19 +53,15 @@ fn write_report<O: Sink>(
     out: &mut O,
 ) -> Result<(), Failed>
     requires { IsOver count closing.now }
-    ensures ok { OnOk result ((job : Job) → IsWholeRun job closing.now → Writes O.told out.old out.new
-        (head_text (facts_of facts.now) ++ flat_map (part_text (guest job) (events job)) job.kinds)) }
-    ensures err { OnErr result ((job : Job) → IsWholeRun job closing.now → WritesPart O.told out.old out.new
-        (head_text (facts_of facts.now) ++ flat_map (part_text (guest job) (events job)) job.kinds)) }
+    ensures ok { OnOk result ((job : Job) → IsWholeRun job closing.now →
+        Writes O.told out.old out.new (head_text (facts_of facts.now)
+        ++ flat_map (part_text (guest job) (events job)) job.kinds)) }
+    ensures err { OnErr result ((job : Job) → IsWholeRun job closing.now →
+        WritesPart O.told out.old out.new (head_text (facts_of facts.now)
+        ++ flat_map (part_text (guest job) (events job)) job.kinds)) }
 {
-    match report_head(facts, out) {
-        Ok(()) => {}
-        Err(failed) => return Err(failed),
-    }
-    match report_parts(closing, count, out) {
-        Ok(()) => Ok(()),
-        Err(failed) => Err(failed),
-    }
+    report_head(facts, out)?;
+    report_parts(closing, count, out)
 }
 
 // Whether one of so many analyses, which are all, has a finding.
@@ -98,7 +92,8 @@ fn status_number(end: EndCause, found: bool) -> u8
 // Writes the report of a run that went to its end. It answers the status.
 fn tell<O: Sink>(closing: &Closing, count: u32, out: &mut O) -> Result<u8, Failed>
     requires { IsOver count closing.now }
-    ensures status { IfOk result (λ number. (job : Job) → IsWholeRun job closing.now → number ≡ status job) }
+    ensures status { IfOk result (λ number. (job : Job) → IsWholeRun job closing.now →
+        number ≡ status job) }
     ensures ok { OnOk result ((job : Job) → IsWholeRun job closing.now →
         Writes O.told out.old out.new (report job)) }
     ensures err { OnErr result ((job : Job) → IsWholeRun job closing.now →
@@ -107,10 +102,7 @@ fn tell<O: Sink>(closing: &Closing, count: u32, out: &mut O) -> Result<u8, Faile
     let Some(facts) = closing.facts() else {
         unreachable!()
     };
-    match write_report(&facts, closing, count, out) {
-        Ok(()) => {}
-        Err(failed) => return Err(failed),
-    }
+    write_report(&facts, closing, count, out)?;
     Ok(status_number(facts.end, has_finding(closing, count)))
 }
 

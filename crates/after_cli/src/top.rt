@@ -11,7 +11,7 @@ ghost use Rattle.refusals.specs.Status.{status_of};
 ghost use Rattle.after_cli.specs.Asked.{AreNoJob, AsksForMore, IsAsked, IsNoRun};
 ghost use Rattle.after_cli.specs.Ends.{Ends, TellsLine};
 ghost use Rattle.after_cli.specs.Exact.{IsRight};
-ghost use Rattle.after_cli.specs.Means.{Concludes, IsShown, Means, answer_of};
+ghost use Rattle.after_cli.specs.Means.{Concludes, ShowsText, Means, answer_of};
 
 use crate::running::{JobEnd, run_job};
 use after_edge::{Failed, Files, Sink};
@@ -80,7 +80,8 @@ fn answer_run<F: Files, O: Sink>(
 ) -> Answer
     requires { IsSoundRun (run_said run.now) }
     ensures means { (words : List (List ℕ)) → IsAsked words (run_said run.now) →
-        Means (F.content files.old) words (F.faults files.old) (F.faults files.new) O.told out.old out.new result }
+        Means (F.content files.old) words (F.faults files.old) (F.faults files.new)
+        O.told out.old out.new result }
     ensures same { F.content files.new ≡ F.content files.old }
 {
     let inputs = match read_inputs(alloc, files, run.image, run.script, run.disk, run.ram_kib) {
@@ -139,7 +140,7 @@ fn end_failed<E: Sink>(closing: Option<Closing>, err: &mut E) -> Outcome
 
 /// The end of a call that has put a text of its own, by what the put came to: status 0, or 6 and its line.
 pub fn end_shown<E: Sink>(shown: Result<(), Failed>, err: &mut E) -> Outcome
-    ensures { IsShown shown E.told err.old err.new result }
+    ensures { ShowsText shown E.told err.old err.new result }
 {
     match shown {
         Ok(()) => Outcome {
@@ -167,7 +168,8 @@ fn end_answer<E: Sink>(answer: Answer, err: &mut E) -> Outcome
 /// What is wrong with words of which one is no text, by the words before it: the first of them that is bad by itself, or
 /// else the one that is no text.
 pub fn refusal_before(words: &[String]) -> Refusal
-    ensures { result ≡ Refusal.Words (Word (unwrap_or (first_bad_in (map string_bytes words.now)) (length words.now + 1))) }
+    ensures { result ≡ Refusal.Words
+        (Word (unwrap_or (first_bad_in (map string_bytes words.now)) (length words.now + 1))) }
 {
     let number = match first_bad_before(words) {
         Some(number) => number,
@@ -217,9 +219,10 @@ pub fn aftersight_plain<F: Files, O: Sink, E: Sink>(
     }) result }
 
     // Where the files tell what they are, and neither they nor the output fail, it comes to what the definitions say of the
-    // words and the files, or to want of memory.
+    // words and the files, or to no memory.
     ensures exact { (told : Contents) → F.content files.old ≡ Some told
-        → ¬ Rose (F.faults files.old) (F.faults files.new) → ¬ Rose (O.told.faults out.old) (O.told.faults out.new)
+        → ¬ Rose (F.faults files.old) (F.faults files.new)
+        → ¬ Rose (O.told.faults out.old) (O.told.faults out.new)
         → IsRight O.told out.old out.new result told (job_in (map string_bytes words.now)) }
 
     // Words alone decide on these two.

@@ -12,7 +12,7 @@ use Rattle.std.proofs.lemmas.Bool.{cond_below, not-true, ltb-false}
 use Rattle.list_laws.proofs.OptionLaws.{none_from_is_some}
 use Rattle.list_laws.proofs.PrefixLaws.{take_IsPrefix}
 use Rattle.after_edge.specs.Files.{Contents, ChangesTold, Changes, IsBegun, MayBeBegun, IsAppended, MayBeAppended}
-use Rattle.after_edge.specs.MemoryFiles.{Kept, is_named, entry_of, file_of, changed, changed_or_added, begun, bytes_of, appended, passes_room, has_no_place, HasRoom}
+use Rattle.after_edge.specs.MemoryFiles.{Kept, is_named, entry_of, file_of, changed, changed_or_added, with_no_bytes, bytes_of, with_piece, passes_room, has_no_place, HasRoom}
 
 -- the first entry that has the name stands at this place
 record IsFirst (text : List ℕ) (entries : List Kept) (index : ℕ) (entry : Kept) : Type 0 where
@@ -118,23 +118,23 @@ file_before : (text : List ℕ) (entries : List Kept) (entry : Kept) → entry_o
 file_before text entries entry found = ap (λ e. option_and_then (λ (kept : Kept). kept.file) e) found
 
 -- a begin of a name that has room
-Changes-begun : (text : List ℕ) (entries : List Kept) (entry : Kept) → entry_of entries text ≡ Some entry → Changes (Some (file_of entries)) (Some (file_of (changed begun text entries))) text IsBegun
-Changes-begun text entries entry found = Changes-told _ _ text IsBegun (record { here = file_here begun (λ e. refl) text entries entry found; others = others_stay begun (λ e. refl) text entries })
+Changes-begun : (text : List ℕ) (entries : List Kept) (entry : Kept) → entry_of entries text ≡ Some entry → Changes (Some (file_of entries)) (Some (file_of (changed with_no_bytes text entries))) text IsBegun
+Changes-begun text entries entry found = Changes-told _ _ text IsBegun (record { here = file_here with_no_bytes (λ e. refl) text entries entry found; others = others_stay with_no_bytes (λ e. refl) text entries })
 
 -- an append of what fits, and of the part that fits
-Changes-appended : (text piece : List ℕ) (entries : List Kept) (entry : Kept) → entry_of entries text ≡ Some entry → passes_room piece entry ≡ false → Changes (Some (file_of entries)) (Some (file_of (changed (appended piece) text entries))) text (IsAppended piece)
+Changes-appended : (text piece : List ℕ) (entries : List Kept) (entry : Kept) → entry_of entries text ≡ Some entry → passes_room piece entry ≡ false → Changes (Some (file_of entries)) (Some (file_of (changed (with_piece piece) text entries))) text (IsAppended piece)
 Changes-appended text piece entries entry found fits =
     let all = take_all (entry.room - length (bytes_of entry)) piece (omega (arith, ltb-false entry.room (length (bytes_of entry) + length piece) fits)) in
-    let after = file_here (appended piece) (λ e. refl) text entries entry found in
+    let after = file_here (with_piece piece) (λ e. refl) text entries entry found in
     let before = ap (λ was. Some (unwrap_or was [] ++ piece)) (sym (file_before text entries entry found)) in
-    Changes-told _ _ text (IsAppended piece) (record { here = after ∙ ap (λ l. Some (bytes_of entry ++ l)) all ∙ before; others = others_stay (appended piece) (λ e. refl) text entries })
+    Changes-told _ _ text (IsAppended piece) (record { here = after ∙ ap (λ l. Some (bytes_of entry ++ l)) all ∙ before; others = others_stay (with_piece piece) (λ e. refl) text entries })
 
-Changes-part : (text piece : List ℕ) (entries : List Kept) (entry : Kept) → entry_of entries text ≡ Some entry → Changes (Some (file_of entries)) (Some (file_of (changed (appended piece) text entries))) text (MayBeAppended piece)
+Changes-part : (text piece : List ℕ) (entries : List Kept) (entry : Kept) → entry_of entries text ≡ Some entry → Changes (Some (file_of entries)) (Some (file_of (changed (with_piece piece) text entries))) text (MayBeAppended piece)
 Changes-part text piece entries entry found =
     let part = take (entry.room - length (bytes_of entry)) piece in
-    let after = file_here (appended piece) (λ e. refl) text entries entry found in
+    let after = file_here (with_piece piece) (λ e. refl) text entries entry found in
     let before = ap (λ was. Some (unwrap_or was [] ++ part)) (sym (file_before text entries entry found)) in
-    Changes-told _ _ text (MayBeAppended piece) (record { here = inr (part, take_IsPrefix (entry.room - length (bytes_of entry)) piece, after ∙ before); others = others_stay (appended piece) (λ e. refl) text entries })
+    Changes-told _ _ text (MayBeAppended piece) (record { here = inr (part, take_IsPrefix (entry.room - length (bytes_of entry)) piece, after ∙ before); others = others_stay (with_piece piece) (λ e. refl) text entries })
 
 some_entry : (found : Option Kept) → is_some found ≡ true → (entry : Kept) × (found ≡ Some entry)
 some_entry None is = absurd (cc)
@@ -144,38 +144,38 @@ placed_entry : (piece : List ℕ) (found : Option Kept) → not (has_no_place pi
 placed_entry piece None is = absurd (cc)
 placed_entry piece (Some entry) is = (entry, refl, not-true (passes_room piece entry) is)
 
-append_step : (text piece : List ℕ) (entries : List Kept) (found : Option Kept) → entry_of entries text ≡ found → Changes (Some (file_of entries)) (Some (file_of (changed (appended piece) text entries))) text (MayBeAppended piece)
+append_step : (text piece : List ℕ) (entries : List Kept) (found : Option Kept) → entry_of entries text ≡ found → Changes (Some (file_of entries)) (Some (file_of (changed (with_piece piece) text entries))) text (MayBeAppended piece)
 append_step text piece entries None is =
     let P : List Kept → Type 0 = λ es. Changes (Some (file_of entries)) (Some (file_of es)) text (MayBeAppended piece) in
-    subst P (sym (changed-missing (appended piece) text entries is)) (Changes-none (Some (file_of entries)) text (MayBeAppended piece) (λ was. inl refl))
+    subst P (sym (changed-missing (with_piece piece) text entries is)) (Changes-none (Some (file_of entries)) text (MayBeAppended piece) (λ was. inl refl))
 append_step text piece entries (Some entry) is = Changes-part text piece entries entry is
 
 -- what the calls do to the files, as their answers tell
 module _ (text : List ℕ) (before entries after : List Kept) (same : entries ≡ before) where
-  pub begin-ok : after ≡ changed begun text entries → is_some (entry_of entries text) ≡ true → Changes (Some (file_of before)) (Some (file_of after)) text IsBegun
+  pub begin-ok : after ≡ changed with_no_bytes text entries → is_some (entry_of entries text) ≡ true → Changes (Some (file_of before)) (Some (file_of after)) text IsBegun
   begin-ok is some =
       let entry = some_entry (entry_of entries text) some in
       let P : List Kept → List Kept → Type 0 = λ es fs. Changes (Some (file_of es)) (Some (file_of fs)) text IsBegun in
       subst (λ (es : List Kept). P es after) same (subst (P entries) (sym is) (Changes-begun text entries entry.0 entry.1))
 
-  pub begin-err : after ≡ changed begun text entries → is_some (entry_of entries text) ≡ false → Changes (Some (file_of before)) (Some (file_of after)) text MayBeBegun
+  pub begin-err : after ≡ changed with_no_bytes text entries → is_some (entry_of entries text) ≡ false → Changes (Some (file_of before)) (Some (file_of after)) text MayBeBegun
   begin-err is none =
-      let unchanged = changed-missing begun text entries (none_from_is_some (entry_of entries text) none) in
+      let unchanged = changed-missing with_no_bytes text entries (none_from_is_some (entry_of entries text) none) in
       let P : List Kept → Type 0 = λ es. Changes (Some (file_of before)) (Some (file_of es)) text MayBeBegun in
       subst P (sym (is ∙ unchanged ∙ same)) (Changes-none (Some (file_of before)) text MayBeBegun (λ was. inl refl))
 
-  pub append-ok : (piece : List ℕ) → after ≡ changed (appended piece) text entries → not (has_no_place piece (entry_of entries text)) ≡ true → Changes (Some (file_of before)) (Some (file_of after)) text (IsAppended piece)
+  pub append-ok : (piece : List ℕ) → after ≡ changed (with_piece piece) text entries → not (has_no_place piece (entry_of entries text)) ≡ true → Changes (Some (file_of before)) (Some (file_of after)) text (IsAppended piece)
   append-ok piece is fits =
       let entry = placed_entry piece (entry_of entries text) fits in
       let P : List Kept → List Kept → Type 0 = λ es fs. Changes (Some (file_of es)) (Some (file_of fs)) text (IsAppended piece) in
       subst (λ (es : List Kept). P es after) same (subst (P entries) (sym is) (Changes-appended text piece entries entry.0 entry.1 entry.2))
 
-  pub append-err : (piece : List ℕ) → after ≡ changed (appended piece) text entries → Changes (Some (file_of before)) (Some (file_of after)) text (MayBeAppended piece)
+  pub append-err : (piece : List ℕ) → after ≡ changed (with_piece piece) text entries → Changes (Some (file_of before)) (Some (file_of after)) text (MayBeAppended piece)
   append-err piece is =
       let P : List Kept → List Kept → Type 0 = λ es fs. Changes (Some (file_of es)) (Some (file_of fs)) text (MayBeAppended piece) in
       subst (λ (es : List Kept). P es after) same (subst (P entries) (sym is) (append_step text piece entries (entry_of entries text) refl))
 
--- where a search for the name ended: its entry, and what a write there and a new entry behind the others make
+-- where a search for the name ended: its entry, and what a write there and a new entry after the others make
 module _ (text : List ℕ) (entries slice : List Kept) (same : slice ≡ entries) where
   at_entries : {found : Option ℕ} → found ≡ position (is_named text) slice → position (is_named text) entries ≡ found
   at_entries at = ap (λ l. position (is_named text) l) (sym same) ∙ sym at

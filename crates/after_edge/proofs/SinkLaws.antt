@@ -1,5 +1,6 @@
 -- What several puts do to a sink.
-use Rattle.std.proofs.Common.{◌≡◌, ℕ, List, [], ◌++◌, subst, append_assoc, append-nil, sym, arith}
+use Rattle.std.proofs.Common.{◌≡◌, ℕ, List, [], ◌++◌, subst, append_assoc, append-nil, sym, arith, Result, Ok, Err}
+use Rattle.std.specs.Result.{OnErr}
 use Rattle.list_laws.specs.Prefix.{IsPrefix}
 use Rattle.list_laws.proofs.PrefixLaws.{IsPrefix-after, IsPrefix-more, IsPrefix-trans}
 use Rattle.after_edge.specs.Sink.{Telling, Adds, Writes, WritesPart}
@@ -46,3 +47,8 @@ module _ {S : Type 0} (sink : Telling S) where
   -- the same bytes in other words
   pub WritesPart-same : (a b : S) {p q : List ℕ} → p ≡ q → WritesPart sink a b p → WritesPart sink a b q
   WritesPart-same a b e part = let P : List ℕ → Type 0 = λ l. WritesPart sink a b l in subst P e part
+
+-- what stands where a call failed is said of its answer
+pub on_err_of : {T E P : Type 0} (r : Result T E) → P → OnErr r P
+on_err_of (Ok x) p = tt
+on_err_of (Err e) p = p

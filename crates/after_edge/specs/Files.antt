@@ -33,7 +33,8 @@ pub record Reads (files : Contents) (name : List ℕ) (at count : ℕ) (piece : 
 
 -- when a file may be called absent, and what is counted then: nothing where the files tell it
 abbrev pub HasAbsentCause : Option Contents → List ℕ → ℕ → ℕ → Type 0
-HasAbsentCause content name before now = (IsAbsent content name × (now ≡ before)) ⊎ ((content ≡ None) × Rose before now)
+HasAbsentCause content name before now =
+    (IsAbsent content name × (now ≡ before)) ⊎ ((content ≡ None) × Rose before now)
 
 -- when a read may give nothing, and what is counted
 abbrev pub HasReadCause : Option Contents → List ℕ → ℕ → ℕ → Result ℕ ReadFault → Type 0
@@ -42,14 +43,17 @@ HasReadCause content name before now (Err Absent) = HasAbsentCause content name 
 HasReadCause content name before now (Err Failed) = Rose before now
 
 -- a change of the told content at this name; other files stay
-pub record ChangesTold (old new : Contents) (name : List ℕ) (changed : Option (List ℕ) → Option (List ℕ) → Type 0) : Type 0 where
+pub record ChangesTold (old new : Contents) (name : List ℕ)
+    (changed : Option (List ℕ) → Option (List ℕ) → Type 0) : Type 0 where
   pub here : changed (old name) (new name)
   pub others : (other : List ℕ) → other ≢ name → new other ≡ old other
 
 -- what is told is still told, changed at this name alone
-pub record Changes (old new : Option Contents) (name : List ℕ) (changed : Option (List ℕ) → Option (List ℕ) → Type 0) : Type 0 where
+pub record Changes (old new : Option Contents) (name : List ℕ)
+    (changed : Option (List ℕ) → Option (List ℕ) → Type 0) : Type 0 where
   pub untold : old ≡ None → new ≡ None
-  pub told : IfTold old (λ was. (files : Contents) × (new ≡ Some files) × ChangesTold was files name changed)
+  pub told : IfTold old
+      (λ was. (files : Contents) × (new ≡ Some files) × ChangesTold was files name changed)
 
 -- what becomes of the file of that name: begun, it has no bytes; where the call failed, it is as before or begun
 abbrev pub IsBegun : Option (List ℕ) → Option (List ℕ) → Type 0
@@ -63,4 +67,5 @@ abbrev pub IsAppended : List ℕ → Option (List ℕ) → Option (List ℕ) →
 IsAppended piece was now = now ≡ Some (unwrap_or was [] ++ piece)
 
 abbrev pub MayBeAppended : List ℕ → Option (List ℕ) → Option (List ℕ) → Type 0
-MayBeAppended piece was now = (now ≡ was) ⊎ ((part : List ℕ) × IsPrefix part piece × (now ≡ Some (unwrap_or was [] ++ part)))
+MayBeAppended piece was now =
+    (now ≡ was) ⊎ ((part : List ℕ) × IsPrefix part piece × (now ≡ Some (unwrap_or was [] ++ part)))

@@ -1,5 +1,6 @@
 pub mod Fault
 pub mod Files
+pub mod Host
 pub mod MemoryFiles
 pub mod MemorySink
 pub mod Reading

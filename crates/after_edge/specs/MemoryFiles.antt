@@ -38,11 +38,13 @@ file_of entries text = option_and_then (λ entry. entry.file) (entry_of entries 
 -- the entry of this name, changed; the others stay
 abbrev pub changed : (Kept → Kept) → List ℕ → List Kept → List Kept
 changed change text [] = []
-changed change text (entry ∷ entries) = if is_named text entry then change entry ∷ entries else entry ∷ changed change text entries
+changed change text (entry ∷ entries) =
+    if is_named text entry then change entry ∷ entries else entry ∷ changed change text entries
 
--- the entry of this name, changed, or else a new one behind the others
+-- the entry of this name, changed, or else a new one after the others
 abbrev pub changed_or_added : (Kept → Kept) → Kept → List ℕ → List Kept → List Kept
-changed_or_added change fresh text entries = if is_some (entry_of entries text) then changed change text entries else entries ++ fresh ∷ []
+changed_or_added change fresh text entries =
+    if is_some (entry_of entries text) then changed change text entries else entries ++ fresh ∷ []
 
 -- a name with this room and no file
 abbrev pub with_no_file : List ℕ → ℕ → Kept
@@ -53,15 +55,19 @@ abbrev pub with_room : ℕ → Kept → Kept
 with_room bytes entry = record { name = entry.name; file = entry.file; room = max entry.room bytes }
 
 -- an empty file
-abbrev pub begun : Kept → Kept
-begun entry = record { name = entry.name; file = Some []; room = entry.room }
+abbrev pub with_no_bytes : Kept → Kept
+with_no_bytes entry = record { name = entry.name; file = Some []; room = entry.room }
 
 abbrev pub bytes_of : Kept → List ℕ
 bytes_of entry = unwrap_or entry.file []
 
 -- a file with the part of the piece that fits at its end
-abbrev pub appended : List ℕ → Kept → Kept
-appended piece entry = record { name = entry.name; file = Some (bytes_of entry ++ take (entry.room - length (bytes_of entry)) piece); room = entry.room }
+abbrev pub with_piece : List ℕ → Kept → Kept
+with_piece piece entry = record {
+  name = entry.name;
+  file = Some (bytes_of entry ++ take (entry.room - length (bytes_of entry)) piece);
+  room = entry.room;
+}
 
 -- the piece passes the room
 abbrev pub passes_room : List ℕ → Kept → Bool
@@ -73,8 +79,12 @@ HasRoom None bytes = ⊥
 HasRoom (Some entry) bytes = bytes ≤ entry.room
 
 -- a file with these bytes, and room for them
-abbrev pub filled : List ℕ → Kept → Kept
-filled bytes entry = record { name = entry.name; file = Some bytes; room = max entry.room (length bytes) }
+abbrev pub with_bytes : List ℕ → Kept → Kept
+with_bytes bytes entry = record {
+  name = entry.name;
+  file = Some bytes;
+  room = max entry.room (length bytes);
+}
 
 -- the files after a name got room for this many bytes
 abbrev pub room_after : FilesState → List ℕ → ℕ → FilesState
@@ -88,7 +98,7 @@ room_after s text bytes = record {
 -- the files after a name got these bytes
 abbrev pub set_after : FilesState → List ℕ → List ℕ → FilesState
 set_after s text bytes = record {
-  entries = changed_or_added (filled bytes) (filled bytes (with_no_file text 0)) text s.entries;
+  entries = changed_or_added (with_bytes bytes) (with_bytes bytes (with_no_file text 0)) text s.entries;
   plan = s.plan;
   calls = s.calls;
   faults = s.faults;
@@ -118,7 +128,8 @@ read_of (Some bytes) at size = Ok (min size (length bytes - at))
 
 -- a read fails exactly where it is planned
 abbrev pub read_answer : FilesState → List ℕ → ℕ → ℕ → Result ℕ ReadFault
-read_answer s text at size = if is_planned s then Err Failed else read_of (file_of s.entries text) at size
+read_answer s text at size =
+    if is_planned s then Err Failed else read_of (file_of s.entries text) at size
 
 -- the files after a read
 abbrev pub read_after : FilesState → FilesState
@@ -130,7 +141,9 @@ begin_fails s text = is_planned s || is_none (entry_of s.entries text)
 
 -- the files after a begin
 abbrev pub begin_after : FilesState → List ℕ → FilesState
-begin_after s text = call_after s (if is_planned s then s.entries else changed begun text s.entries) (begin_fails s text)
+begin_after s text =
+    call_after s (if is_planned s then s.entries else changed with_no_bytes text s.entries)
+    (begin_fails s text)
 
 -- the piece passes the room of the name, which may have none
 abbrev pub has_no_place : List ℕ → Option Kept → Bool
@@ -143,4 +156,6 @@ append_fails s text piece = is_planned s || has_no_place piece (entry_of s.entri
 
 -- the files after an append
 abbrev pub append_after : FilesState → List ℕ → List ℕ → FilesState
-append_after s text piece = call_after s (if is_planned s then s.entries else changed (appended piece) text s.entries) (append_fails s text piece)
+append_after s text piece =
+    call_after s (if is_planned s then s.entries else changed (with_piece piece) text s.entries)
+    (append_fails s text piece)

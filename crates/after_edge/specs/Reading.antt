@@ -12,9 +12,11 @@ pub record IsLonger (files : Contents) (name : List ℕ) (max : ℕ) : Type 0 wh
   pub longer : max < length bytes
 
 -- when a file may not be read whole, and what is counted; no memory has no cause
-abbrev pub HasFileCause : {V : Type 0} → Option Contents → List ℕ → ℕ → ℕ → ℕ → Result V FileFault → Type 0
+abbrev pub HasFileCause : {V : Type 0} → Option Contents → List ℕ → ℕ → ℕ → ℕ → Result V FileFault
+    → Type 0
 HasFileCause content name max before now (Ok bytes) = before ≤ now
 HasFileCause content name max before now (Err Absent) = HasAbsentCause content name before now
 HasFileCause content name max before now (Err Failed) = Rose before now
-HasFileCause content name max before now (Err (TooLong most)) = (most ≡ max) × IfTold content (λ files. IsLonger files name max) × (before ≤ now)
+HasFileCause content name max before now (Err (TooLong most)) =
+    (most ≡ max) × IfTold content (λ files. IsLonger files name max) × (before ≤ now)
 HasFileCause content name max before now (Err NoMemory) = before ≤ now

@@ -1,7 +1,7 @@
 //! The entries of files in memory, found by their names.
 ghost use Rattle.std.specs.Prelude.{◌≡◌, ◌++◌, [], ◌∷◌, is_some, not, option_copied, length, IsOk, OnOk, OnErr};
 ghost use Rattle.std.specs.List.{position};
-ghost use Rattle.after_edge.specs.MemoryFiles.{is_named, entry_of, file_of, changed, changed_or_added, with_room, with_no_file, filled, begun, appended, has_no_place, HasRoom};
+ghost use Rattle.after_edge.specs.MemoryFiles.{is_named, entry_of, file_of, changed, changed_or_added, with_room, with_no_file, with_bytes, with_no_bytes, with_piece, has_no_place, HasRoom};
 
 use crate::entry::Entry;
 use memory_map::NoMemory;
@@ -32,7 +32,8 @@ pub(crate) fn room_at(
     bytes: usize,
 ) -> Result<(), NoMemory>
     ensures ok { OnOk result (entries.new.items
-        ≡ changed_or_added (with_room bytes) (with_no_file name.now bytes) name.now entries.old.items) }
+        ≡ changed_or_added (with_room bytes) (with_no_file name.now bytes) name.now
+        entries.old.items) }
     ensures within { HasRoom (entry_of entries.old.items name.now) bytes → IsOk result }
     ensures err { OnErr result (entries.new.items ≡ entries.old.items) }
 {
@@ -53,8 +54,10 @@ pub(crate) fn set_at(
     bytes: &[u8],
 ) -> Result<(), NoMemory>
     ensures ok { OnOk result (entries.new.items
-        ≡ changed_or_added (filled bytes.now) (filled bytes.now (with_no_file name.now 0)) name.now entries.old.items) }
-    ensures within { HasRoom (entry_of entries.old.items name.now) (length bytes.now) → IsOk result }
+        ≡ changed_or_added (with_bytes bytes.now) (with_bytes bytes.now (with_no_file name.now 0)) name.now
+        entries.old.items) }
+    ensures within { HasRoom (entry_of entries.old.items name.now) (length bytes.now)
+        → IsOk result }
     ensures err { OnErr result (entries.new.items ≡ entries.old.items) }
 {
     match place(entries, name) {
@@ -82,7 +85,7 @@ pub(crate) fn file_at<'a>(entries: &'a [Entry], name: &str) -> Option<&'a [u8]>
 
 // Makes the file of this name empty, and answers whether the name has room.
 pub(crate) fn begin_at(entries: &mut Vec<Entry>, name: &str) -> bool
-    ensures after { entries.new.items ≡ changed begun name.now entries.old.items }
+    ensures after { entries.new.items ≡ changed with_no_bytes name.now entries.old.items }
     ensures found { result ≡ is_some (entry_of entries.old.items name.now) }
 {
     match place(entries, name) {
@@ -97,7 +100,7 @@ pub(crate) fn begin_at(entries: &mut Vec<Entry>, name: &str) -> bool
 
 // Adds the part of the piece that fits, and answers whether that is all of it.
 pub(crate) fn append_at(entries: &mut Vec<Entry>, name: &str, piece: &[u8]) -> bool
-    ensures after { entries.new.items ≡ changed (appended piece.now) name.now entries.old.items }
+    ensures after { entries.new.items ≡ changed (with_piece piece.now) name.now entries.old.items }
     ensures whole { result ≡ not (has_no_place piece.now (entry_of entries.old.items name.now)) }
 {
     match place(entries, name) {

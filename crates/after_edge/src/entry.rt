@@ -2,7 +2,7 @@
 ghost use Rattle.std.specs.Prelude.{◌≡◌, ◌≤◌, ◌<◌, ◌+◌, ◌-◌, List, ℕ, [], ◌++◌, length, take, drop, min, max, not, vec_len, vec_capacity, if◌then◌else◌, Some, None, option_copied, IsOk, IfOk, OnOk, OnErr};
 ghost use Rattle.std.specs.Str.{bytes_eq};
 ghost use Rattle.std.specs.String.{string_bytes};
-ghost use Rattle.after_edge.specs.MemoryFiles.{Kept, with_no_file, with_room, begun, appended, passes_room, filled};
+ghost use Rattle.after_edge.specs.MemoryFiles.{Kept, with_no_file, with_room, with_no_bytes, with_piece, passes_room, with_bytes};
 
 use crate::reserved::append_reserved;
 use memory_map::NoMemory;
@@ -21,7 +21,11 @@ pub(crate) struct Entry {
 impl Model for Entry {
     ghost Value = { Kept };
 
-    ghost view = { λ e. record { name = string_bytes e.name; file = (if e.present then Some e.bytes.items else None); room = e.room } };
+    ghost view = { λ e. record {
+      name = string_bytes e.name;
+      file = (if e.present then Some e.bytes.items else None);
+      room = e.room;
+    } };
 
     ghost invariant = { λ e. (vec_len e.bytes ≤ e.room) × (e.room ≤ vec_capacity e.bytes) };
 }
@@ -74,7 +78,7 @@ impl Entry {
 
     // An empty file.
     pub(crate) fn begin(&mut self)
-        ensures { self.new ≡ begun self.old }
+        ensures { self.new ≡ with_no_bytes self.old }
     {
         self.bytes.clear();
         self.present = true;
@@ -82,7 +86,7 @@ impl Entry {
 
     // Adds the part of the piece that fits, and answers whether that is all of it.
     pub(crate) fn append(&mut self, piece: &[u8]) -> bool
-        ensures after { self.new ≡ appended piece.now self.old }
+        ensures after { self.new ≡ with_piece piece.now self.old }
         ensures whole { result ≡ not (passes_room piece.now self.old) }
     {
         if !self.present {
@@ -95,7 +99,7 @@ impl Entry {
 
     // A file with these bytes.
     pub(crate) fn fill(&mut self, bytes: &[u8]) -> Result<(), NoMemory>
-        ensures ok { OnOk result (self.new ≡ filled bytes.now self.old) }
+        ensures ok { OnOk result (self.new ≡ with_bytes bytes.now self.old) }
         ensures within { length bytes.now ≤ self.old.room → IsOk result }
         ensures err { OnErr result (self.new ≡ self.old) }
     {

@@ -28,20 +28,25 @@ pub trait Files {
     fn read(&mut self, name: &str, at: u64, buf: &mut [u8]) -> Result<usize, ReadFault>
         requires { 0 < length buf.old }
         ensures within { IfOk result (λ count. count ≤ length buf.new) }
-        ensures read { IfOk result (λ count. IfTold (content self.old) (λ files. Reads files name.now at count (take count buf.new))) }
-        ensures cause { HasReadCause (content self.old) name.now (faults self.old) (faults self.new) result }
+        ensures read { IfOk result (λ count. IfTold (content self.old)
+            (λ files. Reads files name.now at count (take count buf.new))) }
+        ensures cause { HasReadCause (content self.old) name.now (faults self.old)
+            (faults self.new) result }
         ensures same { content self.new ≡ content self.old };
 
     /// Makes the file empty, and makes one where there is none. Where it fails, the file is as before or empty.
     fn begin(&mut self, name: &str) -> Result<(), Failed>
         ensures ok { OnOk result (Changes (content self.old) (content self.new) name.now IsBegun) }
-        ensures err { OnErr result (Changes (content self.old) (content self.new) name.now MayBeBegun) }
+        ensures err { OnErr result
+            (Changes (content self.old) (content self.new) name.now MayBeBegun) }
         ensures counted { Counts result (faults self.old) (faults self.new) };
 
     /// Adds the piece at the file's end, and first makes a file that is absent.
     /// Where it fails, some prefix of the piece was added.
     fn append(&mut self, name: &str, piece: &[u8]) -> Result<(), Failed>
-        ensures ok { OnOk result (Changes (content self.old) (content self.new) name.now (IsAppended piece.now)) }
-        ensures err { OnErr result (Changes (content self.old) (content self.new) name.now (MayBeAppended piece.now)) }
+        ensures ok { OnOk result
+            (Changes (content self.old) (content self.new) name.now (IsAppended piece.now)) }
+        ensures err { OnErr result
+            (Changes (content self.old) (content self.new) name.now (MayBeAppended piece.now)) }
         ensures counted { Counts result (faults self.old) (faults self.new) };
 }

@@ -28,7 +28,12 @@ pub struct MemoryFiles {
 impl Model for MemoryFiles {
     ghost Value = { FilesState };
 
-    ghost view = { λ s. record { entries = s.entries.items; plan = s.plan.items; calls = s.calls; faults = s.faults } };
+    ghost view = { λ s. record {
+      entries = s.entries.items;
+      plan = s.plan.items;
+      calls = s.calls;
+      faults = s.faults;
+    } };
 }
 
 impl MemoryFiles {
@@ -60,7 +65,8 @@ impl MemoryFiles {
     /// Where there is no memory, all is as before.
     pub fn set(&mut self, name: &str, bytes: &[u8]) -> Result<(), NoMemory>
         ensures ok { OnOk result (self.new ≡ set_after self.old name.now bytes.now) }
-        ensures within { HasRoom (entry_of self.old.entries name.now) (length bytes.now) → IsOk result }
+        ensures within { HasRoom (entry_of self.old.entries name.now) (length bytes.now)
+            → IsOk result }
         ensures err { OnErr result (self.new ≡ self.old) }
     {
         set_at(self.alloc, &mut self.entries, name, bytes)
@@ -104,8 +110,10 @@ impl Files for MemoryFiles {
     fn read(&mut self, name: &str, at: u64, buf: &mut [u8]) -> Result<usize, ReadFault>
         requires { 0 < length buf.old }
         ensures within { IfOk result (λ count. count ≤ length buf.new) }
-        ensures read { IfOk result (λ count. IfTold (told_content self.old) (λ files. Reads files name.now at count (take count buf.new))) }
-        ensures cause { HasReadCause (told_content self.old) name.now self.old.faults self.new.faults result }
+        ensures read { IfOk result (λ count. IfTold (told_content self.old)
+            (λ files. Reads files name.now at count (take count buf.new))) }
+        ensures cause { HasReadCause
+            (told_content self.old) name.now self.old.faults self.new.faults result }
         ensures same { told_content self.new ≡ told_content self.old }
         ensures answer { result ≡ read_answer self.old name.now at (length buf.old) }
         ensures after { self.new ≡ read_after self.old }
@@ -123,8 +131,10 @@ impl Files for MemoryFiles {
 
     /// Fails exactly where this call is to fail, which changes nothing, or the name has no room.
     fn begin(&mut self, name: &str) -> Result<(), Failed>
-        ensures ok { OnOk result (Changes (told_content self.old) (told_content self.new) name.now IsBegun) }
-        ensures err { OnErr result (Changes (told_content self.old) (told_content self.new) name.now MayBeBegun) }
+        ensures ok { OnOk result
+            (Changes (told_content self.old) (told_content self.new) name.now IsBegun) }
+        ensures err { OnErr result
+            (Changes (told_content self.old) (told_content self.new) name.now MayBeBegun) }
         ensures counted { Counts result self.old.faults self.new.faults }
         ensures once { Counted (is_err result) self.old.faults self.new.faults }
         ensures fails { is_err result ≡ begin_fails self.old name.now }
@@ -145,8 +155,10 @@ impl Files for MemoryFiles {
     /// Fails exactly where this call is to fail, which changes nothing, where the name has no room,
     /// or where the piece passes the room; then the part that fits was added.
     fn append(&mut self, name: &str, piece: &[u8]) -> Result<(), Failed>
-        ensures ok { OnOk result (Changes (told_content self.old) (told_content self.new) name.now (IsAppended piece.now)) }
-        ensures err { OnErr result (Changes (told_content self.old) (told_content self.new) name.now (MayBeAppended piece.now)) }
+        ensures ok { OnOk result (Changes (told_content self.old) (told_content self.new) name.now
+            (IsAppended piece.now)) }
+        ensures err { OnErr result (Changes (told_content self.old) (told_content self.new) name.now
+            (MayBeAppended piece.now)) }
         ensures counted { Counts result self.old.faults self.new.faults }
         ensures once { Counted (is_err result) self.old.faults self.new.faults }
         ensures fails { is_err result ≡ append_fails self.old name.now piece.now }

@@ -36,7 +36,8 @@ pub fn read_all<F: Files>(
     ensures whole { IfOk result (λ bytes. IfTold (F.content files.old) (λ told. told name.now
         ≡ Some bytes.items)) }
     ensures within { IfOk result (λ bytes. vec_len bytes ≤ max) }
-    ensures cause { HasFileCause (F.content files.old) name.now max (F.faults files.old) (F.faults files.new) result }
+    ensures cause { HasFileCause (F.content files.old) name.now max (F.faults files.old)
+        (F.faults files.new) result }
     ensures same { F.content files.new ≡ F.content files.old }
 {
     let mut buffer = [0u8; CHUNK];
@@ -55,7 +56,8 @@ fn read_through<F: Files>(
     ensures whole { IfOk result (λ bytes. IfTold (F.content files.old) (λ told. told name.now
         ≡ Some bytes.items)) }
     ensures within { IfOk result (λ bytes. vec_len bytes ≤ max) }
-    ensures cause { HasFileCause (F.content files.old) name.now max (F.faults files.old) (F.faults files.new) result }
+    ensures cause { HasFileCause (F.content files.old) name.now max (F.faults files.old)
+        (F.faults files.new) result }
     ensures same { F.content files.new ≡ F.content files.old }
 {
     let mut bytes = Vec::new(alloc);

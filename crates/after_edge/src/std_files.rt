@@ -19,9 +19,11 @@ pub struct StdFiles<'a, R: std::rt::Files> {
 }
 
 impl<'a, R: std::rt::Files> StdFiles<'a, R> {
+    ghost use Rattle.after_edge.specs.Host.{calls_failed};
+
     /// Files that have not failed yet.
     pub fn new(rt: &'a R) -> StdFiles<'a, R>
-        ensures { result.faults ≡ 0 }
+        ensures { calls_failed result ≡ 0 }
     {
         StdFiles { rt, faults: 0 }
     }
@@ -67,17 +69,21 @@ fn write_at_end<R: std::rt::Files>(rt: &R, name: &str, piece: &[u8]) -> io::Resu
 }
 
 impl<'a, R: std::rt::Files> Files for StdFiles<'a, R> {
+    ghost use Rattle.after_edge.specs.Host.{calls_failed};
+
     ghost content = { λ s. untold };
 
-    ghost faults = { λ s. s.faults };
+    ghost faults = { calls_failed };
 
     /// Opens the file, goes to the byte and reads once. Absent is where the host says that there is no such file.
     /// The count rises exactly where this fails.
     fn read(&mut self, name: &str, at: u64, buf: &mut [u8]) -> Result<usize, ReadFault>
         ensures within { IfOk result (λ count. count ≤ length buf.new) }
-        ensures read { IfOk result (λ count. IfTold untold (λ files. Reads files name.now at count (take count buf.new))) }
-        ensures cause { HasReadCause untold name.now self.old.faults self.new.faults result }
-        ensures once { Counted (is_err result) self.old.faults self.new.faults }
+        ensures read { IfOk result
+            (λ count. IfTold untold (λ files. Reads files name.now at count (take count buf.new))) }
+        ensures cause { HasReadCause untold name.now (calls_failed self.old) (calls_failed self.new)
+            result }
+        ensures once { Counted (is_err result) (calls_failed self.old) (calls_failed self.new) }
         ensures same { untold ≡ untold }
     {
         match read_from(self.rt, name, at, buf) {
@@ -93,8 +99,8 @@ impl<'a, R: std::rt::Files> Files for StdFiles<'a, R> {
     fn begin(&mut self, name: &str) -> Result<(), Failed>
         ensures ok { OnOk result (Changes untold untold name.now IsBegun) }
         ensures err { OnErr result (Changes untold untold name.now MayBeBegun) }
-        ensures counted { Counts result self.old.faults self.new.faults }
-        ensures once { Counted (is_err result) self.old.faults self.new.faults }
+        ensures counted { Counts result (calls_failed self.old) (calls_failed self.new) }
+        ensures once { Counted (is_err result) (calls_failed self.old) (calls_failed self.new) }
     {
         match File::create(self.rt, name) {
             Ok(_) => Ok(()),
@@ -110,8 +116,8 @@ impl<'a, R: std::rt::Files> Files for StdFiles<'a, R> {
     fn append(&mut self, name: &str, piece: &[u8]) -> Result<(), Failed>
         ensures ok { OnOk result (Changes untold untold name.now (IsAppended piece.now)) }
         ensures err { OnErr result (Changes untold untold name.now (MayBeAppended piece.now)) }
-        ensures counted { Counts result self.old.faults self.new.faults }
-        ensures once { Counted (is_err result) self.old.faults self.new.faults }
+        ensures counted { Counts result (calls_failed self.old) (calls_failed self.new) }
+        ensures once { Counted (is_err result) (calls_failed self.old) (calls_failed self.new) }
     {
         match write_at_end(self.rt, name, piece) {
             Ok(()) => Ok(()),

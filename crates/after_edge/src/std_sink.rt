@@ -2,7 +2,7 @@
 ghost use Rattle.std.specs.Prelude.{◌≡◌, ℕ, List, is_err, OnOk, OnErr};
 ghost use Rattle.std.specs.Io.KnownBytes.{Appends};
 ghost use Rattle.after_edge.specs.Fault.{Counted};
-ghost use Rattle.after_edge.specs.Sink.{HoldsAny, Telling, Writes, WritesPart};
+ghost use Rattle.after_edge.specs.Sink.{Writes, WritesPart};
 
 use crate::{Failed, Sink};
 use std::io;
@@ -16,10 +16,12 @@ pub struct StdSink<W: Write + Drop> {
 }
 
 impl<W: Write + Drop> StdSink<W> {
+    ghost use Rattle.after_edge.specs.Host.{puts_failed, writer_of};
+
     /// A sink that has not failed yet.
     pub fn new(writer: W) -> StdSink<W>
-        ensures writer { result.writer ≡ writer }
-        ensures faults { result.faults ≡ 0 }
+        ensures writer { writer_of result ≡ writer }
+        ensures faults { puts_failed result ≡ 0 }
     {
         StdSink { writer, faults: 0 }
     }
@@ -34,14 +36,17 @@ fn write_through<W: Write>(writer: &mut W, piece: &[u8]) -> io::Result<()>
 }
 
 impl<W: Write + Drop> Sink for StdSink<W> {
-    ghost told = { record { holds = HoldsAny; faults = λ s. s.faults } };
+    ghost use Rattle.after_edge.specs.Host.{host_sink, puts_failed, writer_of};
+
+    ghost told = { host_sink };
 
     /// Writes the whole piece and flushes. The count rises exactly where that fails.
     fn put(&mut self, piece: &[u8]) -> Result<(), Failed>
-        ensures ok { OnOk result (Writes (record { holds = HoldsAny; faults = λ s. s.faults }) self.old self.new piece.now) }
-        ensures err { OnErr result (WritesPart (record { holds = HoldsAny; faults = λ s. s.faults }) self.old self.new piece.now) }
-        ensures counted { Counted (is_err result) self.old.faults self.new.faults }
-        ensures written { OnOk result (Appends (W.contents self.old.writer) (W.contents self.new.writer) piece.now) }
+        ensures ok { OnOk result (Writes host_sink self.old self.new piece.now) }
+        ensures err { OnErr result (WritesPart host_sink self.old self.new piece.now) }
+        ensures counted { Counted (is_err result) (puts_failed self.old) (puts_failed self.new) }
+        ensures written { OnOk result (Appends (W.contents (writer_of self.old))
+            (W.contents (writer_of self.new)) piece.now) }
     {
         match write_through(&mut self.writer, piece) {
             Ok(()) => Ok(()),

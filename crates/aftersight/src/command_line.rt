@@ -19,7 +19,7 @@ pub enum HostWords {
 // How many bytes are asked for at first.
 const WORD_BYTES: usize = 256;
 
-/// The words that the host gives after the program's name. It fails for want of memory.
+/// The words that the host gives after the program's name. It fails where there is no memory.
 pub fn read_words<R: Env + AllocGlobal>(rt: &R) -> Result<HostWords, AllocError> {
     let mut words = Vec::new(rt.alloc());
     for index in 1..usize::MAX {

@@ -12,7 +12,7 @@ cons_option-append : {A : Type 0} (o : Option A) (xs ys : List A) → cons_optio
 cons_option-append None xs ys = refl
 cons_option-append (Some x) xs ys = refl
 
--- what stands behind comes after what stands in front
+-- what stands later comes after what stands before it
 pub told_after-append : {A : Type 0} (look : List Event → Event → Option A) (before xs ys : List Event) → told_after look before (xs ++ ys) ≡ told_after look before xs ++ told_after look (reverse xs ++ before) ys
 told_after-append look before [] ys = refl
 told_after-append look before (event ∷ xs) ys =

@@ -22,7 +22,7 @@ small = record { code = []; ram_kib = 64; frames = 4; locks = 2 }
 told : ℕ → ℕ → ℕ → Told
 told a0 a1 a2 = record { a0 = a0; a1 = a1; a2 = a2 }
 
--- the instruction of a step whose pc is four times its number behind the start of RAM
+-- the instruction of a step whose pc is four times its number after the start of RAM
 step : ℕ → ℕ → Access → Told → Event
 step n word access arguments = Exec n (0x80000000 + 4 * n) word (0x80000000 + 4 * n + 4) 0 access arguments
 

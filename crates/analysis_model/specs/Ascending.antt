@@ -4,7 +4,8 @@ use Rattle.std.specs.Prelude.{ℕ, ◌==◌, nat_lt, List, [], ◌∷◌, if◌t
 -- the set with one member more
 abbrev pub with_member : ℕ → List ℕ → List ℕ
 with_member new [] = new ∷ []
-with_member new (x ∷ xs) = if new == x then x ∷ xs else if nat_lt new x then new ∷ x ∷ xs else x ∷ with_member new xs
+with_member new (x ∷ xs) =
+    if new == x then x ∷ xs else if nat_lt new x then new ∷ x ∷ xs else x ∷ with_member new xs
 
 -- the members of a list
 abbrev pub ascending : List ℕ → List ℕ

@@ -28,22 +28,24 @@ moves_by link.Pop next = Pop ∷ []
 moves_by link.PopPush next = Push next ∷ Pop ∷ []
 
 abbrev pub moves_of : Event → List Move
-moves_of (Dma step address word mark) = []
-moves_of (Irq step pc cause next) = []
-moves_of (Trap step pc word cause value next) = []
-moves_of (Exec step pc word next result access told) = moves_by (link_as (instruction word)) (pc + 4)
+moves_of (Exec step pc word next result access told) =
+    moves_by (link_as (instruction word)) (pc + 4)
+moves_of _ = []
 
 -- the moves of a context in these events, the newest first
 abbrev pub moves_in : ℕ → List Event → List Move
 moves_in context [] = []
-moves_in context (last ∷ before) = if context_after before == context then moves_of last ++ moves_in context before else moves_in context before
+moves_in context (last ∷ before) =
+    if context_after before == context then moves_of last ++ moves_in context before
+    else moves_in context before
 
 -- The return address of the push that a pop answers, read back from the pop: so many pops on the way wait for their
 -- pushes, and the answer is the first push that none waits for. There is none where `bound` of them, the pop with them,
 -- would wait at once.
 abbrev pub answered : (bound waiting : ℕ) → List Move → Option ℕ
 answered bound waiting [] = None
-answered bound waiting (Pop ∷ older) = if nat_lt (waiting + 1) bound then answered bound (waiting + 1) older else None
+answered bound waiting (Pop ∷ older) =
+    if nat_lt (waiting + 1) bound then answered bound (waiting + 1) older else None
 answered bound zero (Push next ∷ older) = Some next
 answered bound (suc waiting) (Push next ∷ older) = answered bound waiting older
 
@@ -55,10 +57,8 @@ has_pop link.PopPush = true
 
 -- an event that pops
 abbrev pub is_return : Event → Bool
-is_return (Dma step address word mark) = false
-is_return (Irq step pc cause next) = false
-is_return (Trap step pc word cause value next) = false
 is_return (Exec step pc word next result access told) = has_pop (link_as (instruction word))
+is_return _ = false
 
 -- where an executed instruction leads
 abbrev pub next_of : Event → ℕ

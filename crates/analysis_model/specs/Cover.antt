@@ -11,10 +11,8 @@ use Rattle.analysis_model.specs.Look.{Complaint}
 
 -- the pc of an executed instruction
 abbrev pub executed_pc : Event → Option ℕ
-executed_pc (Dma step address word mark) = None
-executed_pc (Irq step pc cause next) = None
-executed_pc (Trap step pc word cause value next) = None
 executed_pc (Exec step pc word next result access told) = Some pc
+executed_pc _ = None
 
 -- the distinct pc values of a run, ascending
 abbrev pub executed_pcs : List Event → List ℕ
@@ -28,7 +26,9 @@ pub record Span : Type 0 where
 -- a word of four bytes before ranges in ascending order: one with the first range where they touch
 abbrev pub joined : ℕ → List Span → List Span
 joined pc [] = record { from = pc; to = pc + 4 } ∷ []
-joined pc (span ∷ spans) = if pc + 4 == span.from then record { from = pc; to = span.to } ∷ spans else record { from = pc; to = pc + 4 } ∷ span ∷ spans
+joined pc (span ∷ spans) =
+    if pc + 4 == span.from then record { from = pc; to = span.to } ∷ spans
+    else record { from = pc; to = pc + 4 } ∷ span ∷ spans
 
 -- the maximal runs of the bytes [pc, pc + 4), for pc values in ascending order
 abbrev pub runs : List ℕ → List Span
@@ -42,14 +42,19 @@ executed_ranges events = runs (executed_pcs events)
 -- the addresses of an executable segment
 abbrev pub spans_of : List Segment → List Span
 spans_of [] = []
-spans_of (segment ∷ segments) = if segment.executable then record { from = segment.address; to = segment.address + segment.size } ∷ spans_of segments else spans_of segments
+spans_of (segment ∷ segments) =
+    if segment.executable
+    then record { from = segment.address; to = segment.address + segment.size }
+    ∷ spans_of segments
+    else spans_of segments
 
 abbrev pub executable_spans : Image → List Span
 executable_spans image = spans_of image.segments
 
 -- an address lies in some span
 abbrev pub is_within : List Span → ℕ → Bool
-is_within spans address = list_any (λ span. nat_le span.from address && nat_lt address span.to) spans
+is_within spans address =
+    list_any (λ span. nat_le span.from address && nat_lt address span.to) spans
 
 abbrev pub bad_pc : ℕ → Complaint
 bad_pc pc = record { kind = Outside; address = pc }
@@ -65,7 +70,9 @@ cover code (Trap step pc word cause value next) = cover_at code pc
 cover code (Exec step pc word next result access told) = cover_at code pc
 
 abbrev pub outside_at : List Span → ℕ → ℕ → Option Finding
-outside_at code step pc = if is_within code pc then None else Some (record { step = step; pc = pc; kind = Outside; address = pc })
+outside_at code step pc =
+    if is_within code pc then None
+    else Some (record { step = step; pc = pc; kind = Outside; address = pc })
 
 -- the finding `outside`: an instruction was executed, or raised an exception, at a pc in no executable segment
 abbrev pub outside : List Span → Event → Option Finding

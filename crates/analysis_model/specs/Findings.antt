@@ -7,7 +7,7 @@ abbrev pub first_step : List Finding → Option ℕ
 first_step [] = None
 first_step (finding ∷ others) = Some finding.step
 
--- a number that stops at the end of its type
+-- a number that saturates at the end of its type
 abbrev pub stopping : ℕ → ℕ
 stopping count = min count (2 ^ 64 - 1)
 

@@ -6,7 +6,7 @@ use Rattle.run_events.specs.declared.access.Access.{Access}
 use Rattle.run_events.specs.declared.announcement.Announcement.{Announcement}
 use Rattle.run_events.specs.declared.announcement.Announcement.TheVariants.{Allocate, Free}
 use Rattle.run_events.specs.declared.event.Event.{Event}
-use Rattle.run_events.specs.declared.event.Event.TheVariants.{Dma, Irq, Trap, Exec}
+use Rattle.run_events.specs.declared.event.Event.TheVariants.{Exec}
 use Rattle.run_events.specs.declared.finding.FindingKind.{FindingKind}
 use Rattle.run_events.specs.declared.finding.FindingKind.TheVariants as finding
 use Rattle.run_events.specs.Access.{touched_from, touched_len, is_of_device}
@@ -27,13 +27,15 @@ use_made (Some (Allocate start size)) address =
     if is_between start (start + size) address then Some Live
     else if is_between (start - 16) (start + size + 16) address then Some Red
     else None
-use_made (Some (Free start size)) address = if is_between start (start + size) address then Some Freed else None
+use_made (Some (Free start size)) address =
+    if is_between start (start + size) address then Some Freed else None
 use_made _ address = None
 
 -- the use of a byte after these events, the newest first: what the last announcement made of it that covers it
 abbrev pub use_after : List Event → ℕ → ByteUse
 use_after [] address = Plain
-use_after (last ∷ before) address = unwrap_or (use_made (announced last) address) (use_after before address)
+use_after (last ∷ before) address =
+    unwrap_or (use_made (announced last) address) (use_after before address)
 
 -- no access may touch the byte
 abbrev pub is_forbidden : ByteUse → Bool
@@ -70,15 +72,16 @@ bad_free address = record { kind = finding.BadFree; address = address }
 
 -- the least byte of RAM in a freed block that was not live
 abbrev pub free : ℕ → (ℕ → ByteUse) → Option Announcement → Option Complaint
-free kib use_of (Some (Free start size)) = option_map bad_free (least_in_ram kib (λ address. not (is_live (use_of address))) start (start + size))
+free kib use_of (Some (Free start size)) =
+    option_map bad_free
+    (least_in_ram kib (λ address. not (is_live (use_of address))) start (start + size))
 free kib use_of _ = None
 
 -- what there is to complain of an event, where bytes have these uses before it
 abbrev pub heap_by : ℕ → (ℕ → ByteUse) → Event → Option Complaint
-heap_by kib use_of (Dma step address word mark) = None
-heap_by kib use_of (Irq step pc cause next) = None
-heap_by kib use_of (Trap step pc word cause value next) = None
-heap_by kib use_of (Exec step pc word next result access told) = option_or (free kib use_of (announced_by word told)) (touch use_of access)
+heap_by kib use_of (Exec step pc word next result access told) =
+    option_or (free kib use_of (announced_by word told)) (touch use_of access)
+heap_by kib use_of _ = None
 
 -- of a RAM of so many KiB: an access that touches a red or a freed byte, and the freeing of bytes that were not live
 abbrev pub heap : ℕ → List Event → Event → Option Complaint

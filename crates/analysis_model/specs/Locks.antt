@@ -7,7 +7,7 @@ use Rattle.run_events.specs.declared.access.Access.{Access}
 use Rattle.run_events.specs.declared.announcement.Announcement.{Announcement}
 use Rattle.run_events.specs.declared.announcement.Announcement.TheVariants as announce
 use Rattle.run_events.specs.declared.event.Event.{Event}
-use Rattle.run_events.specs.declared.event.Event.TheVariants.{Dma, Irq, Trap, Exec}
+use Rattle.run_events.specs.declared.event.Event.TheVariants.{Exec}
 use Rattle.run_events.specs.declared.finding.FindingKind.TheVariants as finding
 use Rattle.run_events.specs.Access.{touched_from, touched_len}
 use Rattle.run_events.specs.Announcement.{announced_by, announced}
@@ -43,7 +43,8 @@ pub record Guarded : Type 0 where
   pub lock : ℕ
 
 abbrev pub guard_by : (ℕ → Bool) → Option Announcement → Option Guarded
-guard_by counts (Some (announce.Guard start size lock)) = if counts lock then Some (record { from = start; to = start + size; lock = lock }) else None
+guard_by counts (Some (announce.Guard start size lock)) =
+    if counts lock then Some (record { from = start; to = start + size; lock = lock }) else None
 guard_by counts _ = None
 
 -- the range that an event guards by a lock that counts once it has named it
@@ -56,14 +57,17 @@ guards bound before = take bound (told_at (guard_at bound) (reverse before))
 
 -- what an announcement in a context makes of a lock: the context holds it, or none does
 abbrev pub holder_by : Option Announcement → ℕ → ℕ → Option (Option ℕ)
-holder_by (Some (announce.Acquire acquired)) lock context = if acquired == lock then Some (Some context) else None
-holder_by (Some (announce.Release released)) lock context = if released == lock then Some None else None
+holder_by (Some (announce.Acquire acquired)) lock context =
+    if acquired == lock then Some (Some context) else None
+holder_by (Some (announce.Release released)) lock context =
+    if released == lock then Some None else None
 holder_by _ lock context = None
 
 -- the context that holds a lock after these events, the newest first
 abbrev pub holder_after : List Event → ℕ → Option ℕ
 holder_after [] lock = None
-holder_after (last ∷ before) lock = unwrap_or (holder_by (announced last) lock (context_after before)) (holder_after before lock)
+holder_after (last ∷ before) lock =
+    unwrap_or (holder_by (announced last) lock (context_after before)) (holder_after before lock)
 
 abbrev pub is_held_by : Option ℕ → ℕ → Bool
 is_held_by None context = false
@@ -72,7 +76,8 @@ is_held_by (Some holder) context = holder == context
 -- the byte stands in a range whose lock this context does not hold
 abbrev pub is_unguarded : ℕ → (ℕ → Option ℕ) → List Guarded → ℕ → Bool
 is_unguarded context holder ranges address =
-    list_any (λ range. is_between range.from range.to address && not (is_held_by (holder range.lock) context)) ranges
+    list_any (λ range. is_between range.from range.to address
+    && not (is_held_by (holder range.lock) context)) ranges
 
 abbrev pub bad_access : ℕ → Complaint
 bad_access address = record { kind = finding.Unguarded; address = address }
@@ -80,7 +85,8 @@ bad_access address = record { kind = finding.Unguarded; address = address }
 -- the least such byte of an access, to a device too
 abbrev pub access_by : ℕ → (ℕ → Option ℕ) → List Guarded → Access → Option Complaint
 access_by context holder ranges access =
-    option_map bad_access (least_from (is_unguarded context holder ranges) (touched_from access) (touched_len access))
+    option_map bad_access
+    (least_from (is_unguarded context holder ranges) (touched_from access) (touched_len access))
 
 abbrev pub bad_acquire : ℕ → Complaint
 bad_acquire lock = record { kind = finding.Reacquire; address = lock }
@@ -94,24 +100,25 @@ acquire_by (Some holder) lock = Some (bad_acquire lock)
 
 -- an acquire of a lock that is held, or a release of one that this context does not hold, where the lock counts
 abbrev pub lock_by : (ℕ → Bool) → ℕ → (ℕ → Option ℕ) → Option Announcement → Option Complaint
-lock_by counts context holder (Some (announce.Acquire lock)) = if counts lock then acquire_by (holder lock) lock else None
+lock_by counts context holder (Some (announce.Acquire lock)) =
+    if counts lock then acquire_by (holder lock) lock else None
 lock_by counts context holder (Some (announce.Release lock)) =
     if counts lock && not (is_held_by (holder lock) context) then Some (bad_release lock) else None
 lock_by counts context holder _ = None
 
 -- what there is to complain of an event in a context, where these locks count, have these holders and guard these ranges
 abbrev pub locks_by : (ℕ → Bool) → ℕ → (ℕ → Option ℕ) → List Guarded → Event → Option Complaint
-locks_by counts context holder ranges (Dma step address word mark) = None
-locks_by counts context holder ranges (Irq step pc cause next) = None
-locks_by counts context holder ranges (Trap step pc word cause value next) = None
 locks_by counts context holder ranges (Exec step pc word next result access told) =
-    option_or (lock_by counts context holder (announced_by word told)) (access_by context holder ranges access)
+    option_or (lock_by counts context holder (announced_by word told))
+    (access_by context holder ranges access)
+locks_by counts context holder ranges _ = None
 
 -- where so many locks and ranges count: an access to a guarded byte without its lock, an acquire of a held lock, and a
 -- release of one that is not held
 abbrev pub locks : ℕ → List Event → Event → Option Complaint
 locks bound before event =
-    locks_by (has_lock (counted bound (event ∷ before))) (context_after before) (holder_after before) (guards bound before) event
+    locks_by (has_lock (counted bound (event ∷ before))) (context_after before)
+    (holder_after before) (guards bound before) event
 
 -- how many locks and how many ranges count
 unfoldable pub locks_kept : ℕ

@@ -10,9 +10,11 @@ use Rattle.run_events.specs.Event.{step_of}
 
 -- What a look tells of each event, in order. A look takes the events before an event, the newest first, and the event;
 -- the first list is what stands before all of the second.
-abbrev pub told_after : {A : Type 0} → (List Event → Event → Option A) → List Event → List Event → List A
+abbrev pub told_after : {A : Type 0} → (List Event → Event → Option A) → List Event → List Event
+    → List A
 told_after look before [] = []
-told_after look before (event ∷ events) = cons_option (look before event) (told_after look (event ∷ before) events)
+told_after look before (event ∷ events) =
+    cons_option (look before event) (told_after look (event ∷ before) events)
 
 -- what it tells of a run
 abbrev pub told_at : {A : Type 0} → (List Event → Event → Option A) → List Event → List A
@@ -32,7 +34,12 @@ pc_of (Exec step pc word next result access told) = pc
 
 -- a finding is a complaint at the step and the pc of its event
 abbrev pub finding_at : (step pc : ℕ) → Complaint → Finding
-finding_at step pc complaint = record { step = step; pc = pc; kind = complaint.kind; address = complaint.address }
+finding_at step pc complaint = record {
+  step = step;
+  pc = pc;
+  kind = complaint.kind;
+  address = complaint.address;
+}
 
 abbrev pub finding_of : Event → Complaint → Finding
 finding_of event complaint = finding_at (step_of event) (pc_of event) complaint

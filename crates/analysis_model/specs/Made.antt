@@ -11,7 +11,9 @@ use Rattle.analysis_model.specs.Locks.{locks_kept}
 
 abbrev pub code_numbers : List Segment → List ℕ
 code_numbers [] = []
-code_numbers (segment ∷ segments) = if segment.executable then segment.address ∷ segment.size ∷ code_numbers segments else code_numbers segments
+code_numbers (segment ∷ segments) =
+    if segment.executable then segment.address ∷ segment.size ∷ code_numbers segments
+    else code_numbers segments
 
 -- of a kind of analysis of this guest
 abbrev pub make_of : Kind → Image → List ℕ
@@ -23,7 +25,12 @@ make_of Locks image = 4 ∷ []
 
 -- the kind with this number
 abbrev pub kind_numbered : ℕ → Kind
-kind_numbered n = if n == 0 then Heap else if n == 1 then Taint else if n == 2 then Calls else if n == 3 then Cover else Locks
+kind_numbered n =
+    if n == 0 then Heap
+    else if n == 1 then Taint
+    else if n == 2 then Calls
+    else if n == 3 then Cover
+    else Locks
 
 abbrev pub kind_made_of : List ℕ → Kind
 kind_made_of [] = Heap
@@ -33,7 +40,8 @@ kind_made_of (kind ∷ numbers) = kind_numbered kind
 abbrev pub spans_made_of : List ℕ → List Span
 spans_made_of [] = []
 spans_made_of (address ∷ []) = []
-spans_made_of (address ∷ size ∷ numbers) = record { from = address; to = address + size } ∷ spans_made_of numbers
+spans_made_of (address ∷ size ∷ numbers) =
+    record { from = address; to = address + size } ∷ spans_made_of numbers
 
 abbrev pub code_made_of : List ℕ → List Span
 code_made_of [] = []
@@ -41,8 +49,18 @@ code_made_of (kind ∷ numbers) = spans_made_of numbers
 
 -- a guest of so many KiB of RAM whose analysis is made of these, at the sizes that analyses have
 abbrev pub guest_made_of : ℕ → List ℕ → Guest
-guest_made_of ram_kib made = record { code = code_made_of made; ram_kib = ram_kib; frames = frames_kept; locks = locks_kept }
+guest_made_of ram_kib made = record {
+  code = code_made_of made;
+  ram_kib = ram_kib;
+  frames = frames_kept;
+  locks = locks_kept;
+}
 
 -- the guest of an image, at these sizes
 abbrev pub guest_of : Image → ℕ → Guest
-guest_of image ram_kib = record { code = executable_spans image; ram_kib = ram_kib; frames = frames_kept; locks = locks_kept }
+guest_of image ram_kib = record {
+  code = executable_spans image;
+  ram_kib = ram_kib;
+  frames = frames_kept;
+  locks = locks_kept;
+}

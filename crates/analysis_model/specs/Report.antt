@@ -22,8 +22,10 @@ line text = text ++ 10 ∷ []
 -- eight digits of lower case hexadecimal
 abbrev pub hexadecimal : ℕ → List ℕ
 hexadecimal n =
-    digit_glyph false (n / 2 ^ 28 % 16) ∷ digit_glyph false (n / 2 ^ 24 % 16) ∷ digit_glyph false (n / 2 ^ 20 % 16) ∷ digit_glyph false (n / 2 ^ 16 % 16)
-    ∷ digit_glyph false (n / 2 ^ 12 % 16) ∷ digit_glyph false (n / 2 ^ 8 % 16) ∷ digit_glyph false (n / 2 ^ 4 % 16) ∷ digit_glyph false (n % 16) ∷ []
+    digit_glyph false (n / 2 ^ 28 % 16) ∷ digit_glyph false (n / 2 ^ 24 % 16)
+    ∷ digit_glyph false (n / 2 ^ 20 % 16) ∷ digit_glyph false (n / 2 ^ 16 % 16)
+    ∷ digit_glyph false (n / 2 ^ 12 % 16) ∷ digit_glyph false (n / 2 ^ 8 % 16)
+    ∷ digit_glyph false (n / 2 ^ 4 % 16) ∷ digit_glyph false (n % 16) ∷ []
 
 -- what the head of the report tells of a run: steps, end, bytes issued and released, records
 pub record Facts : Type 0 where
@@ -44,14 +46,17 @@ end_line (Power status) = line (codes "end power " ++ decimal status)
 end_line Limit = line (codes "end limit")
 
 unfoldable pub output_line : ℕ → ℕ → List ℕ
-output_line issued released = line (codes "output " ++ decimal issued ++ codes " released " ++ decimal released)
+output_line issued released =
+    line (codes "output " ++ decimal issued ++ codes " released " ++ decimal released)
 
 unfoldable pub records_line : ℕ → List ℕ
 records_line items = line (codes "records " ++ decimal items)
 
 -- the first six lines, of which the first is empty
 unfoldable pub head_text : Facts → List ℕ
-head_text f = line [] ++ title_line ++ steps_line f.steps ++ end_line f.end ++ output_line f.issued f.released ++ records_line f.items
+head_text f =
+    line [] ++ title_line ++ steps_line f.steps ++ end_line f.end ++ output_line f.issued f.released
+    ++ records_line f.items
 
 unfoldable pub kind_name : Kind → List ℕ
 kind_name Heap = codes "heap"
@@ -78,17 +83,21 @@ step_text (Some step) = decimal step
 step_text None = codes "none"
 
 unfoldable pub findings_line : Kind → ℕ → Option ℕ → List ℕ
-findings_line kind count first = line (kind_name kind ++ codes " findings " ++ decimal count ++ codes " first " ++ step_text first)
+findings_line kind count first =
+    line (kind_name kind ++ codes " findings " ++ decimal count
+    ++ codes " first " ++ step_text first)
 
 unfoldable pub pcs_line : ℕ → ℕ → List ℕ
 pcs_line pcs ranges = line (codes "cover pcs " ++ decimal pcs ++ codes " ranges " ++ decimal ranges)
 
 unfoldable pub range_line : Span → List ℕ
-range_line span = line (codes "cover range " ++ hexadecimal span.from ++ codes " " ++ hexadecimal span.to)
+range_line span =
+    line (codes "cover range " ++ hexadecimal span.from ++ codes " " ++ hexadecimal span.to)
 
 unfoldable pub finding_line : Kind → Finding → List ℕ
 finding_line kind f =
-    line (kind_name kind ++ codes " " ++ finding_name f.kind ++ codes " at " ++ decimal f.step ++ codes " pc " ++ hexadecimal f.pc ++ codes " addr " ++ hexadecimal f.address)
+    line (kind_name kind ++ codes " " ++ finding_name f.kind ++ codes " at " ++ decimal f.step
+    ++ codes " pc " ++ hexadecimal f.pc ++ codes " addr " ++ hexadecimal f.address)
 
 unfoldable pub unmatched_line : ℕ → List ℕ
 unmatched_line count = line (codes "calls unmatched " ++ decimal count)
@@ -107,8 +116,11 @@ more_text guest events Locks = []
 
 -- its findings: their number and the first one's step, what there is to tell beside them, and those that are kept
 abbrev pub found_text : Kind → List Finding → List ℕ → List ℕ
-found_text kind found more = findings_line kind (tally found) (first_step found) ++ more ++ flat_map (finding_line kind) (kept found)
+found_text kind found more =
+    findings_line kind (tally found) (first_step found) ++ more
+    ++ flat_map (finding_line kind) (kept found)
 
 -- the lines of an analysis
 abbrev pub part_text : Guest → List Event → Kind → List ℕ
-part_text guest events kind = found_text kind (findings kind guest events) (more_text guest events kind)
+part_text guest events kind =
+    found_text kind (findings kind guest events) (more_text guest events kind)

@@ -67,7 +67,11 @@ abbrev pub with_result : ℕ → Option Sources → Writes → Writes
 with_result rd sources writes = record writes { rd = rd; result = sources }
 
 abbrev pub with_bytes : ℕ → ℕ → Sources → Writes → Writes
-with_bytes address width sources writes = record writes { address = address; width = width; stored = Some sources }
+with_bytes address width sources writes = record writes {
+  address = address;
+  width = width;
+  stored = Some sources;
+}
 
 abbrev pub writes_result : ℕ → Sources → Writes
 writes_result rd sources = with_result rd (Some sources) no_writes
@@ -86,7 +90,8 @@ loaded _ = None
 
 -- a store to RAM; an atomic operation stores its word
 abbrev pub writes_bytes : Access → Sources → Writes
-writes_bytes (access.Store address width value false) sources = with_bytes address width sources no_writes
+writes_bytes (access.Store address width value false) sources =
+    with_bytes address width sources no_writes
 writes_bytes (access.Swap address old new) sources = with_bytes address 4 sources no_writes
 writes_bytes _ sources = no_writes
 
@@ -98,14 +103,19 @@ old_bytes _ = []
 abbrev pub atomic_writes : AtomicOp → ℕ → ℕ → Access → Writes
 atomic_writes Lr rd rs2 access = with_result rd (loaded access) no_writes
 atomic_writes Sc rd rs2 access = with_result rd (Some unmarked) (writes_bytes access (register rs2))
-atomic_writes Swap rd rs2 access = with_result rd (Some (From (old_bytes access))) (writes_bytes access (register rs2))
-atomic_writes _ rd rs2 access = with_result rd (Some (From (old_bytes access))) (writes_bytes access (From (Register rs2 ∷ old_bytes access)))
+atomic_writes Swap rd rs2 access =
+    with_result rd (Some (From (old_bytes access))) (writes_bytes access (register rs2))
+atomic_writes _ rd rs2 access =
+    with_result rd (Some (From (old_bytes access)))
+    (writes_bytes access (From (Register rs2 ∷ old_bytes access)))
 
 -- mscratch; setting and clearing bits of an immediate keeps its mark, and register 0 makes it no write
 abbrev pub scratch_writes : CsrOp → ℕ → Option Sources
 scratch_writes Csrrw source = Some (register source)
-scratch_writes Csrrs source = if source == 0 then None else Some (From (Scratch ∷ Register source ∷ []))
-scratch_writes Csrrc source = if source == 0 then None else Some (From (Scratch ∷ Register source ∷ []))
+scratch_writes Csrrs source =
+    if source == 0 then None else Some (From (Scratch ∷ Register source ∷ []))
+scratch_writes Csrrc source =
+    if source == 0 then None else Some (From (Scratch ∷ Register source ∷ []))
 scratch_writes Csrrwi source = Some unmarked
 scratch_writes Csrrsi source = None
 scratch_writes Csrrci source = None
@@ -113,7 +123,8 @@ scratch_writes Csrrci source = None
 -- no other CSR has a mark
 abbrev pub csr_writes : CsrOp → ℕ → ℕ → ℕ → Writes
 csr_writes op rd source csr =
-    if csr == 0x340 then record (writes_result rd (From (Scratch ∷ []))) { scratch = scratch_writes op source }
+    if csr == 0x340
+    then record (writes_result rd (From (Scratch ∷ []))) { scratch = scratch_writes op source }
     else writes_result rd unmarked
 
 -- what an instruction writes that made this access
@@ -154,7 +165,9 @@ is_general n = nat_le 1 n && nat_le n 31
 abbrev pub sources_in : Writes → Place → Option Sources
 sources_in writes (Register n) = if n == writes.rd && is_general n then writes.result else None
 sources_in writes Scratch = writes.scratch
-sources_in writes (Byte address) = if is_between writes.address (writes.address + writes.width) address then writes.stored else None
+sources_in writes (Byte address) =
+    if is_between writes.address (writes.address + writes.width) address then writes.stored
+    else None
 
 -- the mark of what is made of two values, and whether there is one
 abbrev pub union : ℕ → ℕ → ℕ
@@ -182,7 +195,8 @@ mark_or marks (Some sources) place = mark_of marks sources
 -- those places for their marks before it. At first nothing is marked.
 abbrev pub mark_after : List Event → Place → ℕ
 mark_after [] place = 0
-mark_after (last ∷ before) place = mark_or (mark_after before) (sources_in (writes_of last) place) place
+mark_after (last ∷ before) place =
+    mark_or (mark_after before) (sources_in (writes_of last) place) place
 
 abbrev pub bad_jump : ℕ → Complaint
 bad_jump next = record { kind = finding.Jump; address = next }
@@ -209,10 +223,9 @@ leak kib marks _ = None
 
 -- what there is to complain of an event, where places have these marks before it
 abbrev pub taint_by : ℕ → (Place → ℕ) → Event → Option Complaint
-taint_by kib marks (Dma step address word mark) = None
-taint_by kib marks (Irq step pc cause next) = None
-taint_by kib marks (Trap step pc word cause value next) = None
-taint_by kib marks (Exec step pc word next result access told) = option_or (jump marks (instruction word) next) (leak kib marks (announced_by word told))
+taint_by kib marks (Exec step pc word next result access told) =
+    option_or (jump marks (instruction word) next) (leak kib marks (announced_by word told))
+taint_by kib marks _ = None
 
 -- of a RAM of so many KiB: a jump to a marked address, and a marked byte where all must be unmarked
 abbrev pub taint : ℕ → List Event → Event → Option Complaint

@@ -3,4 +3,10 @@ use Rattle.analysis_model.specs.Report.{Facts}
 use Rattle.analysis_set.specs.declared.head.RunFacts.{RunFacts}
 
 abbrev pub facts_of : RunFacts → Facts
-facts_of f = record { steps = f.steps; end = f.end; issued = f.issued; released = f.released; items = f.items }
+facts_of f = record {
+  steps = f.steps;
+  end = f.end;
+  issued = f.issued;
+  released = f.released;
+  items = f.items;
+}

@@ -12,15 +12,18 @@ pub trait Analysis: Watcher {
     /// The step of the first finding.
     fn first(&self) -> Option<u32>
         ensures seen { (h : List Event) → Self.has_seen self.now h →
-            result ≡ first_step (findings (kind_made_of (Self.make self.now)) (guest_made_of (Self.ram_kib self.now) (Self.make self.now)) h) };
+            result ≡ first_step (findings (kind_made_of (Self.make self.now))
+            (guest_made_of (Self.ram_kib self.now) (Self.make self.now)) h) };
 
     /// How many findings there are, at most 2^64 - 1.
     fn count(&self) -> u64
         ensures seen { (h : List Event) → Self.has_seen self.now h →
-            result ≡ tally (findings (kind_made_of (Self.make self.now)) (guest_made_of (Self.ram_kib self.now) (Self.make self.now)) h) };
+            result ≡ tally (findings (kind_made_of (Self.make self.now))
+            (guest_made_of (Self.ram_kib self.now) (Self.make self.now)) h) };
 
     /// The first findings, at most 64, in order.
     fn kept(&self) -> &[Finding]
         ensures seen { (h : List Event) → Self.has_seen self.now h →
-            result.now ≡ kept (findings (kind_made_of (Self.make self.now)) (guest_made_of (Self.ram_kib self.now) (Self.make self.now)) h) };
+            result.now ≡ kept (findings (kind_made_of (Self.make self.now))
+            (guest_made_of (Self.ram_kib self.now) (Self.make self.now)) h) };
 }

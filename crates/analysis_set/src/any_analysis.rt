@@ -11,7 +11,7 @@ use call_stacks::Calls;
 use coverage_map::Coverage;
 use elf_image::Image;
 use lock_rules::Locks;
-use memory_map::NoMemory;
+use memory_map::{CrossesThreads, NoMemory};
 use redzones::Redzones;
 use run_events::{Event, Finding, Kind, Watcher};
 use std::alloc::Global;
@@ -26,6 +26,8 @@ pub enum AnyAnalysis {
     Cover(Coverage),
     Locks(Locks),
 }
+
+impl CrossesThreads for AnyAnalysis {}
 
 impl AnyAnalysis {
     /// The analysis of this kind, before the first event of a run of this guest. It is the only call that takes memory.

@@ -29,7 +29,8 @@ pub struct RunFacts {
 #[tactic(auto, unfolding(analysis_model::specs::Report::head_text))]
 pub fn report_head<O: Sink>(facts: &RunFacts, out: &mut O) -> Result<(), Failed>
     ensures ok { OnOk result (Writes O.told out.old out.new (head_text (facts_of facts.now))) }
-    ensures err { OnErr result (WritesPart O.told out.old out.new (head_text (facts_of facts.now))) }
+    ensures err { OnErr result
+        (WritesPart O.told out.old out.new (head_text (facts_of facts.now))) }
 {
     let all = [
         Line::new().ended(),

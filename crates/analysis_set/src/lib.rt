@@ -7,7 +7,6 @@ mod head;
 mod lines;
 mod part;
 mod put;
-mod shared;
 
 pub use analysis::Analysis;
 pub use any_analysis::AnyAnalysis;

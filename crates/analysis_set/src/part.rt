@@ -19,18 +19,13 @@ pub fn report_part<O: Sink>(analysis: &AnyAnalysis, out: &mut O) -> Result<(), F
     ensures ok { OnOk result ((h : List Event) → HasSeen analysis.now h →
         Writes O.told out.old out.new (part_made (kib_of analysis.now) (made_of analysis.now) h)) }
     ensures err { OnErr result ((h : List Event) → HasSeen analysis.now h →
-        WritesPart O.told out.old out.new (part_made (kib_of analysis.now) (made_of analysis.now) h)) }
+        WritesPart O.told out.old out.new
+        (part_made (kib_of analysis.now) (made_of analysis.now) h)) }
 {
     let kind = analysis.kind();
     let counted = lines::findings(kind, analysis.count(), analysis.first());
-    match out.put(counted.as_bytes()) {
-        Ok(()) => {}
-        Err(failed) => return Err(failed),
-    }
-    match put_more(analysis, out) {
-        Ok(()) => {}
-        Err(failed) => return Err(failed),
-    }
+    out.put(counted.as_bytes())?;
+    put_more(analysis, out)?;
     put_findings(kind, analysis.kept(), out)
 }
 
@@ -39,7 +34,8 @@ fn put_more<O: Sink>(analysis: &AnyAnalysis, out: &mut O) -> Result<(), Failed>
     ensures ok { OnOk result ((h : List Event) → HasSeen analysis.now h →
         Writes O.told out.old out.new (more_made (kib_of analysis.now) (made_of analysis.now) h)) }
     ensures err { OnErr result ((h : List Event) → HasSeen analysis.now h →
-        WritesPart O.told out.old out.new (more_made (kib_of analysis.now) (made_of analysis.now) h)) }
+        WritesPart O.told out.old out.new
+        (more_made (kib_of analysis.now) (made_of analysis.now) h)) }
 {
     match analysis {
         AnyAnalysis::Calls(calls) => out.put(lines::unmatched(calls.unmatched()).as_bytes()),
@@ -56,10 +52,7 @@ fn cover_more<O: Sink>(coverage: &Coverage, out: &mut O) -> Result<(), Failed>
     ensures err { OnErr result (WritesPart O.told out.old out.new
         (ranges_text (length (pcs_now coverage.now)) (ranges_now coverage.now))) }
 {
-    match out.put(lines::pcs(coverage.pcs(), coverage.ranges()).as_bytes()) {
-        Ok(()) => {}
-        Err(failed) => return Err(failed),
-    }
+    out.put(lines::pcs(coverage.pcs(), coverage.ranges()).as_bytes())?;
     put_ranges(coverage, out)
 }
 
@@ -71,10 +64,7 @@ fn put_ranges<O: Sink>(coverage: &Coverage, out: &mut O) -> Result<(), Failed>
         (flat_map range_line (take 64 (ranges_now coverage.now)))) }
 {
     for index in 0..coverage.ranges().min(64) {
-        match out.put(shown_range(coverage, index).as_bytes()) {
-            Ok(()) => {}
-            Err(failed) => return Err(failed),
-        }
+        out.put(shown_range(coverage, index).as_bytes())?;
     }
     Ok(())
 }
@@ -84,7 +74,8 @@ fn shown_range(coverage: &Coverage, index: u64) -> Line
     requires there { index < length (ranges_now coverage.now) }
     requires shown { index < 64 }
     ensures { result
-        ≡ range_line (slice_index_or (take 64 (ranges_now coverage.now)) index (record { from = 0; to = 0 })) }
+        ≡ range_line (slice_index_or (take 64 (ranges_now coverage.now)) index
+        (record { from = 0; to = 0 })) }
 {
     let (from, to) = coverage.range(index);
     lines::range(from, to)

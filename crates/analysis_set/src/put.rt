@@ -15,10 +15,7 @@ pub(crate) fn put_lines<O: Sink>(all: &[Line], out: &mut O) -> Result<(), Failed
     ensures err { OnErr result (WritesPart O.told out.old out.new (concat all.now)) }
 {
     for line in all {
-        match out.put(line.as_bytes()) {
-            Ok(()) => {}
-            Err(failed) => return Err(failed),
-        }
+        out.put(line.as_bytes())?;
     }
     Ok(())
 }
@@ -29,14 +26,13 @@ pub(crate) fn put_findings<O: Sink>(
     found: &[Finding],
     out: &mut O,
 ) -> Result<(), Failed>
-    ensures ok { OnOk result (Writes O.told out.old out.new (flat_map (finding_line kind) found.now)) }
-    ensures err { OnErr result (WritesPart O.told out.old out.new (flat_map (finding_line kind) found.now)) }
+    ensures ok { OnOk result
+        (Writes O.told out.old out.new (flat_map (finding_line kind) found.now)) }
+    ensures err { OnErr result
+        (WritesPart O.told out.old out.new (flat_map (finding_line kind) found.now)) }
 {
     for finding in found {
-        match out.put(lines::finding(kind, finding).as_bytes()) {
-            Ok(()) => {}
-            Err(failed) => return Err(failed),
-        }
+        out.put(lines::finding(kind, finding).as_bytes())?;
     }
     Ok(())
 }

@@ -111,7 +111,7 @@ fn announced(step: u32, k: u32, a0: u32, a1: u32, a2: u32) -> Event
     )
 }
 
-// One of the jumps, to this many bytes behind the start of RAM.
+// One of the jumps, to this many bytes after the start of RAM.
 fn jumped(step: u32, word: u32, offset: u32) -> Event
     requires { offset < 65536 }
     ensures { Fits 64 result }
@@ -128,7 +128,7 @@ fn jumped(step: u32, word: u32, offset: u32) -> Event
     )
 }
 
-// lb x5, 0(x10), this many bytes behind the start of RAM.
+// lb x5, 0(x10), this many bytes after the start of RAM.
 fn loaded(step: u32, offset: u32) -> Event
     requires { offset < 65536 }
     ensures { Fits 64 result }

@@ -14,4 +14,5 @@ started image ram_kib = reset_state (ram_at_start image ram_kib) image.entry
 
 -- the run of a guest with this script, this disk file and these limits
 unfoldable pub run : Image → Script → List ℕ → (ram_kib limit : ℕ) → Finished
-run image script disk ram_kib limit = run_from hart (board script) limit 0 (started image ram_kib) (reset_board (padded disk))
+run image script disk ram_kib limit =
+    run_from hart (board script) limit 0 (started image ram_kib) (reset_board (padded disk))

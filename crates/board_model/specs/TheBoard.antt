@@ -4,7 +4,7 @@ use Rattle.any_machine.specs.Machine.{Board}
 use Rattle.run_events.specs.declared.access.Access.{Access}
 use Rattle.run_events.specs.declared.access.Access.TheVariants.{Quiet, Load, Store, Swap}
 use Rattle.run_events.specs.declared.event.Event.{Event}
-use Rattle.run_events.specs.declared.event.Event.TheVariants.{Dma, Irq, Trap, Exec}
+use Rattle.run_events.specs.declared.event.Event.TheVariants.{Exec}
 use Rattle.hart_model.specs.State.{State}
 use Rattle.machine_model.specs.Script.{Script}
 use Rattle.machine_model.specs.Board.{BoardState, words_before, at_step, board_lines, given_at, after_load, after_store}
@@ -13,15 +13,15 @@ use Rattle.machine_model.specs.Board.{BoardState, words_before, at_step, board_l
 abbrev pub after_access : Script → ℕ → List ℕ → BoardState → Access → BoardState
 after_access script step ram b Quiet = b
 after_access script step ram b (Load address width value device mark) = b
-after_access script step ram b (Store address width value true) = after_store script step ram b address value
+after_access script step ram b (Store address width value true) =
+    after_store script step ram b address value
 after_access script step ram b (Store address width value false) = b
 after_access script step ram b (Swap address old new) = b
 
 abbrev pub after_event : Script → ℕ → List ℕ → BoardState → Event → BoardState
-after_event script step ram b (Dma n address word mark) = b
-after_event script step ram b (Irq n pc cause next) = b
-after_event script step ram b (Trap n pc word cause value next) = b
-after_event script step ram b (Exec n pc word next result access told) = after_access script step ram b access
+after_event script step ram b (Exec n pc word next result access told) =
+    after_access script step ram b access
+after_event script step ram b _ = b
 
 -- the devices of a script, for a hart
 unfoldable pub board : Script → Board State BoardState

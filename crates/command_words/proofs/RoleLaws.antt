@@ -13,7 +13,7 @@ use Rattle.command_words.specs.declared.table.Setting.TheVariants.{Disk, Mode, W
 use Rattle.command_words.specs.Table.{belongs, place, plain_count, setting_named}
 use Rattle.command_words.specs.Values.{◌>>=◌, is_option, is_value}
 use Rattle.command_words.specs.Roles.{Role, Plain, Naming, Value, roles, names, is_naming, has_name, found, plain_words, ends_open, option_of, may_stand, is_value_of, is_bad, number, first_bad}
-use Rattle.command_words.specs.Drafts.{held, plain_held, Holds, Advances, IsDraft, Refuses}
+use Rattle.command_words.specs.Drafts.{held, plain_held, Holds, ReadsOn, IsDraft, Refuses}
 
 -- ---- what a word is
 
@@ -229,7 +229,7 @@ refuse_plain command words before i old word below at plain holds may_not =
     let whole : roles (i + 2) None (drop i words) ≡ Plain (i + 2) word ∷ rest = ap (roles (i + 2) None) (drop_word words i word below at) ∙ is_plain_word (i + 2) word (drop (i + 1) words) plain in
     ap (first_bad command before) whole ∙ bad_word command before (Plain (i + 2) word) rest (not_from_false _ (may_stand_after command before old word false holds may_not))
 
-pub plain_next : (command : CommandName) (words : List (List ℕ)) (before : List Role) (i : ℕ) (old new : Draft) (word : List ℕ) → i < length words → get_or words i [] ≡ word → is_option word ≡ false → may_stand command (length (plain_held old)) word ≡ true → plain_held new ≡ plain_held old ++ word ∷ [] → ((setting : Setting) → held new setting ≡ held old setting) → Holds before old → Advances command words before i (i + 1) new
+pub plain_next : (command : CommandName) (words : List (List ℕ)) (before : List Role) (i : ℕ) (old new : Draft) (word : List ℕ) → i < length words → get_or words i [] ≡ word → is_option word ≡ false → may_stand command (length (plain_held old)) word ≡ true → plain_held new ≡ plain_held old ++ word ∷ [] → ((setting : Setting) → held new setting ≡ held old setting) → Holds before old → ReadsOn command words before i (i + 1) new
 plain_next command words before i old new word below at plain may kept values holds =
     let e : i + 2 + 1 ≡ i + 1 + 2 = omega arith in
     record {
@@ -273,7 +273,7 @@ refuse_value command words before i old word value setting below at next option 
     ∙ naming_good command before (i + 2) old word setting (Value (i + 2 + 1) word value ∷ rest) holds known
     ∙ bad_word command (before ++ Naming (i + 2) word ∷ []) (Value (i + 2 + 1) word value) rest refused
 
-pub option_next : (command : CommandName) (words : List (List ℕ)) (before : List Role) (i : ℕ) (old new : Draft) (word value : List ℕ) (setting : Setting) → i + 1 < length words → get_or words i [] ≡ word → get_or words (i + 1) [] ≡ value → is_option word ≡ true → option_of command (λ s. is_some (held old s)) word ≡ Some setting → is_value setting value ≡ true → held old setting ≡ None → plain_held new ≡ plain_held old → ((other : Setting) → held new other ≡ (if place setting == place other then Some (value, i + 2 + 1) else held old other)) → Holds before old → Advances command words before i (i + 2) new
+pub option_next : (command : CommandName) (words : List (List ℕ)) (before : List Role) (i : ℕ) (old new : Draft) (word value : List ℕ) (setting : Setting) → i + 1 < length words → get_or words i [] ≡ word → get_or words (i + 1) [] ≡ value → is_option word ≡ true → option_of command (λ s. is_some (held old s)) word ≡ Some setting → is_value setting value ≡ true → held old setting ≡ None → plain_held new ≡ plain_held old → ((other : Setting) → held new other ≡ (if place setting == place other then Some (value, i + 2 + 1) else held old other)) → Holds before old → ReadsOn command words before i (i + 2) new
 option_next command words before i old new word value setting below at next option known good_value none kept values holds =
     let named = (option_known command (λ s. is_some (held old s)) word setting known).0 in
     let taken : is_bad command (before ++ Naming (i + 2) word ∷ []) (Value (i + 2 + 1) word value) ≡ false = ap (λ (o : Option Setting). not (is_value_of o value)) named ∙ ap not good_value in
@@ -304,7 +304,7 @@ pub record HasRead (command : CommandName) (words : List (List ℕ)) (i : ℕ) (
 pub has_read_none : (command : CommandName) (words : List (List ℕ)) (draft : Draft) → ((setting : Setting) → held draft setting ≡ None) → plain_held draft ≡ [] → HasRead command words 0 draft
 has_read_none command words draft values plain = record { before = []; same = refl; good = λ later. refl; holds = holds_none draft values plain }
 
-pub has_read_more : (command : CommandName) (words : List (List ℕ)) (i j : ℕ) (old new : Draft) (read : HasRead command words i old) → Advances command words read.before i j new → HasRead command words j new
+pub has_read_more : (command : CommandName) (words : List (List ℕ)) (i j : ℕ) (old new : Draft) (read : HasRead command words i old) → ReadsOn command words read.before i j new → HasRead command words j new
 has_read_more command words i j old new read next =
     record {
       before = read.before ++ next.part;

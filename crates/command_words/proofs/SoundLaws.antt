@@ -26,8 +26,8 @@ use Rattle.command_words.specs.Values.{◌>>=◌, all_named, kind_named, kinds, 
 use Rattle.command_words.specs.Roles.{Role, first_bad, found, plain_words, roles}
 use Rattle.command_words.specs.Jobs.{Job, Run, Record, Analyze, Show, Load, Values, value_or, is_best, chosen, named_required, threads, turns, ram, steps, log, word_if, crossed_required, crossed_turns, run_job, run_of, job_of, is_short, read_as, job_in, record_job, analyze_job, load_job}
 use Rattle.command_words.specs.declared.command.Command.{Command}
-use Rattle.command_words.specs.Says.{Gives, says}
-use Rattle.command_words.specs.Sound.{IsBetween, IsLogSize, AreChosen, IsSoundRun, IsSound}
+use Rattle.command_words.specs.Says.{GivesJob, says}
+use Rattle.command_words.specs.Sound.{IsBetween, IsLogSize, AreChosen, IsSoundRun, IsSoundJob}
 
 -- ---- what is read of a value
 
@@ -178,7 +178,7 @@ threads_sound values = value_or_is (IsBetween 0 8) 0 threads_in (omega arith, om
 same_job : (a b : Job) → (let r : Result Job WordsFault = Ok a in r) ≡ Ok b → a ≡ b
 same_job a b h = cc
 
-run_sound : (values : Values) (words : List (List ℕ)) (job : Job) → run_of values words ≡ Ok job → IsSound job
+run_sound : (values : Values) (words : List (List ℕ)) (job : Job) → run_of values words ≡ Ok job → IsSoundJob job
 unfolding run_of
 run_sound values words job h =
     let first = or_refused (word_if (crossed_required values) (values Require)) _ job h in
@@ -194,38 +194,38 @@ run_sound values words job h =
       threads = (threads_sound values).1;
       turns = turns_pattern values (values Turns) refl second.0;
     } in
-    subst IsSound same sound
+    subst IsSoundJob same sound
 
 size_sound : (o : Option ℕ) → ((n : ℕ) → o ≡ Some n → IsBetween 1 100000 n) → IsBetween 1 100000 (unwrap_or o 1)
 size_sound None h = (omega arith, omega arith)
 size_sound (Some n) h = h n refl
 
-job_sound : (command : CommandName) (values : Values) (words : List (List ℕ)) (job : Job) → job_of command values words ≡ Ok job → IsSound job
+job_sound : (command : CommandName) (values : Values) (words : List (List ℕ)) (job : Job) → job_of command values words ≡ Ok job → IsSoundJob job
 unfolding job_of
 job_sound command.Run values words job h = run_sound values words job h
-job_sound command.Record values words job h = subst IsSound (same_job (Record (record_job values words)) job h) (ram_sound values, steps_sound values)
-job_sound command.Analyze values words job h = subst IsSound (same_job (Analyze (analyze_job values words)) job h) (chosen_sound values)
-job_sound command.Show values words job h = subst IsSound (same_job (Show (get_or words 0 [])) job h) tt
-job_sound command.Load values words job h = subst IsSound (same_job (Load (load_job values words)) job h) (size_sound _ (number_between 1 100000 (get_or words 1 [])), log_sound values, (threads_sound values).1)
+job_sound command.Record values words job h = subst IsSoundJob (same_job (Record (record_job values words)) job h) (ram_sound values, steps_sound values)
+job_sound command.Analyze values words job h = subst IsSoundJob (same_job (Analyze (analyze_job values words)) job h) (chosen_sound values)
+job_sound command.Show values words job h = subst IsSoundJob (same_job (Show (get_or words 0 [])) job h) tt
+job_sound command.Load values words job h = subst IsSoundJob (same_job (Load (load_job values words)) job h) (size_sound _ (number_between 1 100000 (get_or words 1 [])), log_sound values, (threads_sound values).1)
 
 unshort : (short : Bool) (rest : Result Job WordsFault) (job : Job) → (if short then Err Missing else rest) ≡ Ok job → rest ≡ Ok job
 unshort true rest job h = absurd (cc h)
 unshort false rest job h = h
 
-read_sound : (command : CommandName) (words : List Role) (job : Job) → read_as command words ≡ Ok job → IsSound job
+read_sound : (command : CommandName) (words : List Role) (job : Job) → read_as command words ≡ Ok job → IsSoundJob job
 unfolding read_as
 read_sound command words job h = job_sound command (found words) (plain_words words) job (unshort (is_short command words) _ job (or_refused (first_bad command [] words) _ job h).1)
 
-by_name : (o : Option CommandName) (words : List Role) (job : Job) → option_map_or (λ command. read_as command words) o (Err (Word 1)) ≡ Ok job → IsSound job
+by_name : (o : Option CommandName) (words : List Role) (job : Job) → option_map_or (λ command. read_as command words) o (Err (Word 1)) ≡ Ok job → IsSoundJob job
 by_name None words job h = absurd (cc h)
 by_name (Some command) words job h = read_sound command words job h
 
-pub sound_in : (words : List (List ℕ)) (job : Job) → job_in words ≡ Ok job → IsSound job
+pub sound_in : (words : List (List ℕ)) (job : Job) → job_in words ≡ Ok job → IsSoundJob job
 unfolding job_in
 sound_in [] job h = absurd (cc h)
 sound_in (word ∷ words) job h = by_name (command_named word) (roles 2 None words) job h
 
 -- what was answered is sound
-pub sound_of : (words : List (List ℕ)) (r : Result Command WordsFault) → Gives r (job_in words) → IfOk r (λ command. IsSound (says command))
+pub sound_of : (words : List (List ℕ)) (r : Result Command WordsFault) → GivesJob r (job_in words) → IfOk r (λ command. IsSoundJob (says command))
 sound_of words (Ok c) h = sound_in words (says c) h
 sound_of words (Err fault) h = tt

@@ -10,7 +10,7 @@ use Rattle.run_settings.proofs.KindLaws.{tells_once, twice}
 use Rattle.run_settings.specs.declared.letter.Letter.{Letter}
 use Rattle.command_words.specs.Values.{◌>>=◌, kind_named, kinds_in, all_named, onto_first, parts_of, letters_in, letter_in, turns_in}
 
--- what is read of the rest, behind what was read before it
+-- what is read of the rest, after what was read before it
 abbrev pub behind : {X : Type 0} → List X → Option (List X) → Option (List X)
 behind front None = None
 behind front (Some later) = Some (front ++ later)

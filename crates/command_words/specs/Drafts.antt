@@ -31,18 +31,22 @@ pub record Holds (words : List Role) (draft : Draft) : Type 0 where
   pub closed : ends_open false words ≡ false
 
 -- the words from an index on were read up to the next, and none of them is bad
-pub record Advances (command : CommandName) (words : List (List ℕ)) (before : List Role) (index next : ℕ) (draft : Draft) : Type 0 where
+pub record ReadsOn (command : CommandName) (words : List (List ℕ)) (before : List Role)
+    (index next : ℕ) (draft : Draft) : Type 0 where
   pub part : List Role
   pub further : index < next
   pub within : next ≤ length words
-  pub same : roles (index + 2) None (drop index words) ≡ part ++ roles (next + 2) None (drop next words)
-  pub good : (later : List Role) → first_bad command before (part ++ later) ≡ first_bad command (before ++ part) later
+  pub same : roles (index + 2) None (drop index words)
+      ≡ part ++ roles (next + 2) None (drop next words)
+  pub good : (later : List Role)
+      → first_bad command before (part ++ later) ≡ first_bad command (before ++ part) later
   pub holds : Holds (before ++ part) draft
 
 -- why the words after these are refused
 abbrev pub Refuses : CommandName → List Role → List Role → WordsFault → Type 0
 Refuses command before words (Word number) = first_bad command before words ≡ Some number
-Refuses command before words Missing = (first_bad command before words ≡ None) × (ends_open false words ≡ true)
+Refuses command before words Missing =
+    (first_bad command before words ≡ None) × (ends_open false words ≡ true)
 
 -- all words of a command are kept, and none is bad
 pub record IsDraft (command : CommandName) (words : List Role) (draft : Draft) : Type 0 where

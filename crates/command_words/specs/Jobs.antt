@@ -106,11 +106,13 @@ word_if crossed (Some given) = if crossed then Some given.1 else None
 
 -- required analyses are named in best-effort mode, or one of them is not chosen
 unfoldable pub crossed_required : Values → Bool
-crossed_required values = is_best values || not (list_all (has_kind (chosen values)) (named_required values))
+crossed_required values =
+    is_best values || not (list_all (has_kind (chosen values)) (named_required values))
 
 -- turns are given for threads, or they are no pattern for the chosen analyses
 unfoldable pub crossed_turns : Values → Bool
-crossed_turns values = nat_lt 0 (threads values) || not (is_pattern (length (chosen values)) (turns values))
+crossed_turns values =
+    nat_lt 0 (threads values) || not (is_pattern (length (chosen values)) (turns values))
 
 abbrev pub run_job : Values → List (List ℕ) → RunJob
 run_job values words = record {
@@ -144,7 +146,11 @@ record_job values words = record {
 }
 
 abbrev pub analyze_job : Values → List (List ℕ) → AnalyzeJob
-analyze_job values words = record { image = slice_index_or words 0 []; log_file = slice_index_or words 1 []; kinds = chosen values }
+analyze_job values words = record {
+  image = slice_index_or words 0 [];
+  log_file = slice_index_or words 1 [];
+  kinds = chosen values;
+}
 
 abbrev pub load_job : Values → List (List ℕ) → LoadJob
 load_job values words = record {
@@ -164,20 +170,26 @@ job_of command.Load values words = Ok (Load (load_job values words))
 
 -- whether a plain word, or the value of an option, is missing
 abbrev pub is_short : CommandName → List Role → Bool
-is_short command words = ends_open false words || nat_lt (length (plain_words words)) (plain_count command)
+is_short command words =
+    ends_open false words || nat_lt (length (plain_words words)) (plain_count command)
 
 -- a bad word is named first, then what is missing
 unfoldable pub read_as : CommandName → List Role → Result Job WordsFault
 read_as command words =
     option_map_or (λ n. Err (Word n)) (first_bad command [] words)
-    (if is_short command words then Err Missing else job_of command (found words) (plain_words words))
+    (if is_short command words then Err Missing
+    else job_of command (found words) (plain_words words))
 
 -- the job of words, or what is wrong with them
 unfoldable pub job_in : List (List ℕ) → Result Job WordsFault
 job_in [] = Err Missing
-job_in (word ∷ words) = option_map_or (λ command. read_as command (roles 2 None words)) (command_named word) (Err (Word 1))
+job_in (word ∷ words) =
+    option_map_or (λ command. read_as command (roles 2 None words)) (command_named word)
+    (Err (Word 1))
 
 -- the first bad word of these, before anything that may be missing
 unfoldable pub first_bad_in : List (List ℕ) → Option ℕ
 first_bad_in [] = None
-first_bad_in (word ∷ words) = option_map_or (λ command. first_bad command [] (roles 2 None words)) (command_named word) (Some 1)
+first_bad_in (word ∷ words) =
+    option_map_or (λ command. first_bad command [] (roles 2 None words)) (command_named word)
+    (Some 1)

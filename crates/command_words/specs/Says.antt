@@ -34,10 +34,19 @@ record_said words = record {
 }
 
 abbrev pub analyze_said : AnalyzeWords → AnalyzeJob
-analyze_said words = record { image = words.image.now; log_file = words.log_file.now; kinds = words.kinds }
+analyze_said words = record {
+  image = words.image.now;
+  log_file = words.log_file.now;
+  kinds = words.kinds;
+}
 
 abbrev pub load_said : LoadWords → LoadJob
-load_said words = record { seed = words.seed; size = words.size; log = words.log; threads = words.threads }
+load_said words = record {
+  seed = words.seed;
+  size = words.size;
+  log = words.log;
+  threads = words.threads;
+}
 
 abbrev pub says : Command → Job
 says (command.Run run) = Run (run_said run)
@@ -47,6 +56,6 @@ says (command.Show words) = Show words.log_file.now
 says (command.Load words) = Load (load_said words)
 
 -- what was answered is what the definition gives
-abbrev pub Gives : Result Command WordsFault → Result Job WordsFault → Type 0
-Gives (Ok c) given = given ≡ Ok (says c)
-Gives (Err fault) given = given ≡ Err fault
+abbrev pub GivesJob : Result Command WordsFault → Result Job WordsFault → Type 0
+GivesJob (Ok c) given = given ≡ Ok (says c)
+GivesJob (Err fault) given = given ≡ Err fault

@@ -30,9 +30,10 @@ pub record IsSoundRun (run : RunJob) : Type 0 where
   pub threads : run.threads ≤ 8
   pub turns : IsPattern (length run.kinds) run.turns
 
-abbrev pub IsSound : Job → Type 0
-IsSound (Run run) = IsSoundRun run
-IsSound (Record job) = IsBetween LEAST_RAM_KIB MOST_RAM_KIB job.ram_kib × IsBetween 1 MOST_STEPS job.limit
-IsSound (Analyze job) = AreChosen job.kinds
-IsSound (Show log_file) = Unit {0}
-IsSound (Load job) = IsBetween 1 100000 job.size × IsLogSize job.log × (job.threads ≤ 8)
+abbrev pub IsSoundJob : Job → Type 0
+IsSoundJob (Run run) = IsSoundRun run
+IsSoundJob (Record job) =
+    IsBetween LEAST_RAM_KIB MOST_RAM_KIB job.ram_kib × IsBetween 1 MOST_STEPS job.limit
+IsSoundJob (Analyze job) = AreChosen job.kinds
+IsSoundJob (Show log_file) = Unit {0}
+IsSoundJob (Load job) = IsBetween 1 100000 job.size × IsLogSize job.log × (job.threads ≤ 8)

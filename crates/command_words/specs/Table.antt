@@ -61,7 +61,8 @@ setting_named word = find (λ setting. bytes_eq word (option_row setting).word) 
 
 -- whether a command has an option
 abbrev pub belongs : Setting → CommandName → Bool
-belongs setting command = list_any (λ c. number_of c == number_of command) (option_row setting).commands
+belongs setting command =
+    list_any (λ c. number_of c == number_of command) (option_row setting).commands
 
 -- the place of an option among all
 abbrev pub place : Setting → ℕ

@@ -39,7 +39,10 @@ number_in least most text = result_ok (number_at least most text)
 
 -- whether the mode is best effort
 unfoldable pub best_in : List ℕ → Option Bool
-best_in text = if bytes_eq text (codes "sync") then Some false else if bytes_eq text (codes "best") then Some true else None
+best_in text =
+    if bytes_eq text (codes "sync") then Some false
+    else if bytes_eq text (codes "best") then Some true
+    else None
 
 -- the size of RAM in KiB
 abbrev pub ram_in : List ℕ → Option ℕ
@@ -51,7 +54,8 @@ steps_in text = number_in 1 MOST_STEPS text
 
 -- how many places a log has: a power of two
 unfoldable pub log_in : List ℕ → Option ℕ
-log_in text = number_in 16 65536 text >>= λ places. if is_power_of_two places then Some places else None
+log_in text =
+    number_in 16 65536 text >>= λ places. if is_power_of_two places then Some places else None
 
 -- how many threads
 abbrev pub threads_in : List ℕ → Option ℕ
@@ -72,7 +76,7 @@ kinds = Heap ∷ Taint ∷ Calls ∷ Cover ∷ Locks ∷ []
 unfoldable pub kind_named : List ℕ → Option Kind
 kind_named text = find (λ kind. bytes_eq text (kind_name kind)) kinds
 
--- a text with one byte more in front of the first part
+-- a text with one byte more before the first part
 abbrev pub onto_first : ℕ → List (List ℕ) → List (List ℕ)
 onto_first b [] = []
 onto_first b (text ∷ texts) = (b ∷ text) ∷ texts
@@ -82,7 +86,7 @@ unfoldable pub parts_of : List ℕ → List (List ℕ)
 parts_of [] = [] ∷ []
 parts_of (b ∷ bs) = if b == 44 then [] ∷ parts_of bs else onto_first b (parts_of bs)
 
--- the texts of what stands behind a comma
+-- the texts of what stands after a comma
 abbrev pub parts_after : Option (List ℕ) → List (List ℕ)
 parts_after None = []
 parts_after (Some text) = parts_of text
@@ -90,7 +94,8 @@ parts_after (Some text) = parts_of text
 -- the analyses of names, where each is one
 unfoldable pub all_named : List (List ℕ) → Option (List Kind)
 all_named [] = Some []
-all_named (text ∷ texts) = kind_named text >>= λ kind. all_named texts >>= λ others. Some (kind ∷ others)
+all_named (text ∷ texts) =
+    kind_named text >>= λ kind. all_named texts >>= λ others. Some (kind ∷ others)
 
 -- names that are parted by commas, each once
 unfoldable pub kinds_in : List ℕ → Option (List Kind)
@@ -102,7 +107,11 @@ required_in text = if bytes_eq text (codes "none") then Some [] else kinds_in te
 
 -- whose turn a byte names
 unfoldable pub letter_in : ℕ → Option Letter
-letter_in b = if b == 97 then Some letter.Record else if b == 114 then Some letter.Release else if is_ascii_digit b then Some (letter.Read (b - 48)) else None
+letter_in b =
+    if b == 97 then Some letter.Record
+    else if b == 114 then Some letter.Release
+    else if is_ascii_digit b then Some (letter.Read (b - 48))
+    else None
 
 unfoldable pub letters_in : List ℕ → Option (List Letter)
 letters_in [] = Some []

@@ -4,7 +4,7 @@ ghost use Rattle.std.specs.List.{list_all};
 ghost use Rattle.run_settings.specs.Kinds.{has_kind};
 ghost use Rattle.command_words.specs.Drafts.{held, plain_held, seen};
 ghost use Rattle.command_words.specs.Values.{kinds};
-ghost use Rattle.command_words.specs.Says.{Gives, analyze_said, load_said, record_said};
+ghost use Rattle.command_words.specs.Says.{GivesJob, analyze_said, load_said, record_said};
 ghost use Rattle.command_words.specs.Table.{plain_count};
 ghost use Rattle.command_words.specs.Jobs.{chosen, crossed_required, analyze_job, crossed_turns, disk, is_best, job_of, load_job, log, named_required, ram, record_job, required, run_of, steps, threads, turns, word_if};
 
@@ -167,7 +167,7 @@ fn word_if(crossed: bool, given: Option<Given<'_>>) -> Option<u32>
 #[tactic(auto, unfolding(crate::specs::Jobs::run_of))]
 fn run_of<'a>(draft: &Draft<'a>) -> Result<Command<'a>, WordsFault>
     requires { length (plain_held draft.now) ≡ 2 }
-    ensures { Gives result (run_of (held draft.now) (plain_held draft.now)) }
+    ensures { GivesJob result (run_of (held draft.now) (plain_held draft.now)) }
 {
     match word_if(crossed_required(draft), draft.value(Setting::Require)) {
         Some(number) => return Err(WordsFault::Word { number }),
@@ -235,7 +235,7 @@ pub(crate) fn command_of<'a>(
     draft: &Draft<'a>,
 ) -> Result<Command<'a>, WordsFault>
     requires { length (plain_held draft.now) ≡ plain_count command }
-    ensures { Gives result (job_of command (held draft.now) (plain_held draft.now)) }
+    ensures { GivesJob result (job_of command (held draft.now) (plain_held draft.now)) }
 {
     match command {
         CommandName::Run => run_of(draft),

@@ -48,7 +48,8 @@ impl<'a> Draft<'a> {
     pub(crate) fn put(&mut self, setting: Setting, given: Given<'a>)
         requires { held self.old setting ≡ None }
         ensures values { (other : Setting) → held self.new other
-            ≡ (if place setting == place other then Some (seen given.entry) else held self.old other) }
+            ≡ (if place setting == place other then Some (seen given.entry)
+            else held self.old other) }
         ensures plain { plain_held self.new ≡ plain_held self.old }
         ensures spent { spent self.new ≡ spent self.old + 2 }
     {

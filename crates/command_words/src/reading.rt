@@ -1,10 +1,10 @@
 //! Reading words, one after another.
 ghost use Rattle.std.specs.Prelude.{◌≡◌, ◌+◌, ◌<◌, ◌≤◌, List, [], drop, length, map, slice_index_or, string_bytes, Some, None, is_some, OnOk, Err, IfOk, IfErr};
 ghost use Rattle.command_words.specs.declared.fault.WordsFault.TheVariants.{Missing};
-ghost use Rattle.command_words.specs.Drafts.{Advances, Holds, IsDraft, Refuses, held, spent};
+ghost use Rattle.command_words.specs.Drafts.{ReadsOn, Holds, IsDraft, Refuses, held, spent};
 ghost use Rattle.command_words.specs.Jobs.{first_bad_in, job_in, read_as};
-ghost use Rattle.command_words.specs.Sound.{IsSound};
-ghost use Rattle.command_words.specs.Says.{Gives, says};
+ghost use Rattle.command_words.specs.Sound.{IsSoundJob};
+ghost use Rattle.command_words.specs.Says.{GivesJob, says};
 ghost use Rattle.command_words.specs.Roles.{Role, ends_open, may_stand, meets_plain, option_of, roles};
 
 use crate::assembling::command_of;
@@ -39,7 +39,7 @@ fn meets_plain(command: CommandName, before: usize, word: &str) -> bool
     }
 }
 
-// Whether a plain word may stand behind so many others.
+// Whether a plain word may stand after so many others.
 #[tactic(auto, unfolding(crate::specs::Roles::may_stand))]
 fn may_stand(command: CommandName, before: usize, word: &str) -> bool
     ensures { result ≡ may_stand command before word.now }
@@ -55,7 +55,7 @@ fn word_at(words: &[String], index: usize) -> &str
     words[index].as_str()
 }
 
-// Reads the word at an index, and the value behind it where it is an option: answers the index of the next.
+// Reads the word at an index, and the value after it where it is an option: answers the index of the next.
 fn take_next<'a>(
     draft: &mut Draft<'a>,
     command: CommandName,
@@ -67,9 +67,10 @@ fn take_next<'a>(
     ensures few { IfOk result (λ next. next ≤ spent draft.new) }
     ensures short { result ≡ Err Missing → length words.now ≤ index + 1 }
     ensures next { IfOk result (λ next. (before : List Role) → Holds before draft.old
-        → Advances command (map string_bytes words.now) before index next draft.new) }
+        → ReadsOn command (map string_bytes words.now) before index next draft.new) }
     ensures refused { IfErr result (λ fault. (before : List Role) → Holds before draft.old
-        → Refuses command before (roles (index + 2) None (drop index (map string_bytes words.now))) fault) }
+        → Refuses command before
+        (roles (index + 2) None (drop index (map string_bytes words.now))) fault) }
 {
     let number = index as u32 + 2;
     let word = word_at(words, index);
@@ -95,7 +96,7 @@ fn take_next<'a>(
     Ok(index + 2)
 }
 
-// All that the words behind the command say, where none of them is bad.
+// All that the words after the command say, where none of them is bad.
 fn draft_of(command: CommandName, words: &[String]) -> Result<Draft<'_>, WordsFault>
     ensures ok { IfOk result (IsDraft command (roles 2 None (map string_bytes words.now))) }
     ensures err { IfErr result (Refuses command [] (roles 2 None (map string_bytes words.now))) }
@@ -113,10 +114,10 @@ fn draft_of(command: CommandName, words: &[String]) -> Result<Draft<'_>, WordsFa
     Ok(draft)
 }
 
-// The command with this name, of the words behind its own.
+// The command with this name, of the words after its own.
 #[tactic(auto, unfolding(crate::specs::Jobs::read_as))]
 fn read_as(command: CommandName, words: &[String]) -> Result<Command<'_>, WordsFault>
-    ensures { Gives result (read_as command (roles 2 None (map string_bytes words.now))) }
+    ensures { GivesJob result (read_as command (roles 2 None (map string_bytes words.now))) }
 {
     let draft = match draft_of(command, words) {
         Ok(draft) => draft,
@@ -130,7 +131,7 @@ fn read_as(command: CommandName, words: &[String]) -> Result<Command<'_>, WordsF
 
 #[tactic(auto, unfolding(crate::specs::Jobs::job_in))]
 fn command_in(words: &[String]) -> Result<Command<'_>, WordsFault>
-    ensures { Gives result (job_in (map string_bytes words.now)) }
+    ensures { GivesJob result (job_in (map string_bytes words.now)) }
 {
     let [first, later @ ..] = words else {
         return Err(WordsFault::Missing);
@@ -145,13 +146,13 @@ fn command_in(words: &[String]) -> Result<Command<'_>, WordsFault>
 /// is missing, or the first word that does not go with the others. It takes no memory.
 #[tactic(auto, using(crate::proofs::SoundLaws::sound_of))]
 pub fn read_words(words: &[String]) -> Result<Command<'_>, WordsFault>
-    ensures exact { Gives result (job_in (map string_bytes words.now)) }
-    ensures sound { IfOk result (λ command. IsSound (says command)) }
+    ensures exact { GivesJob result (job_in (map string_bytes words.now)) }
+    ensures sound { IfOk result (λ command. IsSoundJob (says command)) }
 {
     command_in(words)
 }
 
-/// The number of the first bad word among these, whatever stands behind them. Values that do not go together, and what is
+/// The number of the first bad word among these, whatever stands after them. Values that do not go together, and what is
 /// missing, are no bad words here. It takes no memory.
 #[tactic(auto, unfolding(crate::specs::Jobs::first_bad_in))]
 pub fn first_bad_before(words: &[String]) -> Option<u32>

@@ -114,7 +114,7 @@ fn comma_in(text: &[u8]) -> Option<usize>
     text.iter().position(|byte| *byte == b',')
 }
 
-// What stands before the first comma, and behind it, where there is one.
+// What stands before the first comma, and after it, where there is one.
 fn first_part(text: &[u8]) -> (&[u8], Option<&[u8]>)
     ensures { parts_of text.now ≡ result.0.now ∷ parts_after (option_copied result.1) }
 {

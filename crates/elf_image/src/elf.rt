@@ -91,7 +91,8 @@ struct Table {
 #[tactic(auto, unfolding(format_model::specs::ImageFile::table_in))]
 fn table_in(file: &[u8]) -> Result<Table, ImageFault>
     requires { 52 ≤ length file.now }
-    ensures table { Gives (λ t. record { start = t.start; count = t.count }) result (table_in file.now) }
+    ensures table { Gives (λ t. record { start = t.start; count = t.count }) result
+        (table_in file.now) }
     ensures within { IfOk result (λ t. t.start + 32 * t.count ≤ length file.now) }
 {
     let count = half_at(file, 44);
@@ -127,7 +128,15 @@ impl<'a> Model for Load<'a> {
 
     ghost Value = { Numbered };
 
-    ghost view = { λ l. record { index = l.index; segment = record { address = l.address; bytes = l.bytes.now; size = l.size; executable = l.executable } } };
+    ghost view = { λ l. record {
+      index = l.index;
+      segment = record {
+        address = l.address;
+        bytes = l.bytes.now;
+        size = l.size;
+        executable = l.executable;
+      };
+    } };
 }
 
 // So many bytes of a file.
@@ -183,7 +192,8 @@ fn add_load<'a>(
     index: u32,
 ) -> Result<(), ImageFault>
     requires { at + 32 ≤ length file.now }
-    ensures { Gives (λ _. loads.new.items) result (with_front loads.old.items (load_at file.now size at index)) }
+    ensures { Gives (λ _. loads.new.items) result
+        (with_front loads.old.items (load_at file.now size at index)) }
 {
     match load_at(file, size, at, index) {
         Ok(None) => Ok(()),

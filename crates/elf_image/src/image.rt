@@ -2,12 +2,12 @@
 ghost use Rattle.std.specs.Prelude.{◌≡◌, ◌+◌, ◌<◌, ◌≤◌, ◌^◌, ℕ, List, length, IfOk};
 ghost use Rattle.machine_model.specs.Image.{flat_image, ram_with, IsLoadable};
 
-use memory_map::{NoMemory, RAM_START};
+use memory_map::{NoMemory, RAM_START, SharedByThreads};
 use rv_memory::Ram;
 use std::alloc::Global;
 use std::marker::Model;
 
-/// A range of `size` addresses from `address` on. The file gives `bytes` for its front; the rest is zero.
+/// A range of `size` addresses from `address` on. The file gives `bytes` for its beginning; the rest is zero.
 #[derive(Drop)]
 pub struct Segment {
     pub address: u32,
@@ -21,7 +21,12 @@ impl Model for Segment {
 
     ghost Value = { Range };
 
-    ghost view = { λ s. record { address = s.address; bytes = s.bytes.items; size = s.size; executable = s.executable } };
+    ghost view = { λ s. record {
+      address = s.address;
+      bytes = s.bytes.items;
+      size = s.size;
+      executable = s.executable;
+    } };
 }
 
 impl Segment {
@@ -44,6 +49,8 @@ pub struct Image {
     pub entry: u32,
     pub segments: Vec<Segment>,
 }
+
+impl SharedByThreads for Image {}
 
 impl Model for Image {
     ghost use Rattle.machine_model.specs.Image.{Image as Guest};
@@ -97,11 +104,4 @@ pub fn read_flat(alloc: Global, file: Vec<u8>) -> Result<Image, NoMemory>
         entry: RAM_START,
         segments: vec![in alloc; segment]?,
     })
-}
-
-// An image may be handed to another thread, and be read by several.
-fn crosses_threads<T: Send + Sync>(_value: &T) {}
-
-fn image_crosses_threads(image: &Image) {
-    crosses_threads(image);
 }

@@ -7,7 +7,7 @@ use Rattle.run_events.specs.declared.finding.Finding.{Finding}
 use Rattle.analysis_model.specs.Findings.{first_step, tally}
 use Rattle.finding_tally.specs.Tallied.{Tallied, Tallies, with_finding, tallied_with}
 
--- a front of a front with more behind it
+-- the first ones of the first ones, with more after them
 take_front : (n : ℕ) (xs ys : List Finding) → take n (take n xs ++ ys) ≡ take n (xs ++ ys)
 take_front n xs ys = grind (arith, cases_lt n (length xs), take-append-le, take_all, length-take, take-take)
 

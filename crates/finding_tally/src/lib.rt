@@ -1,7 +1,6 @@
 //! What an analysis keeps of its findings: the first step, their number, and the first 64.
 #![tactic(auto)]
 
-mod shared;
 mod tally;
 #[cfg(test)]
 mod tests;

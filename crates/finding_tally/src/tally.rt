@@ -3,6 +3,7 @@ ghost use Rattle.std.specs.Prelude.{◌≡◌, ◌≤◌, List, [], ◌∷◌, �
 ghost use Rattle.run_events.specs.declared.finding.Finding.{Finding};
 ghost use Rattle.finding_tally.specs.Tallied.{Tallies, with_finding, tallied_with};
 
+use memory_map::SharedByThreads;
 use run_events::{Finding, FindingKind};
 use std::marker::Model;
 
@@ -15,6 +16,8 @@ pub struct Tally {
     places: [Finding; 64],
     used: usize,
 }
+
+impl SharedByThreads for Tally {}
 
 impl Model for Tally {
     ghost use Rattle.std.specs.Prelude.{◌≤◌, take};
@@ -91,7 +94,7 @@ impl Tally {
     }
 }
 
-// Puts the finding behind the `used` first ones where there is room, and answers how many are used then.
+// Puts the finding after the `used` first ones where there is room, and answers how many are used then.
 #[tactic(auto, using(crate::proofs::TalliedLaws::keep_one, crate::proofs::TalliedLaws::keep_none))]
 fn keep(places: &mut [Finding], used: usize, finding: Finding) -> usize
     requires whole { length places.old ≡ 64 }

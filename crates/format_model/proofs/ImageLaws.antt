@@ -6,7 +6,8 @@ use Rattle.std.proofs.lemmas.List.{length-take, map-append}
 use Rattle.memory_map.specs.declared.TheConstants.{RAM_START}
 use Rattle.memory_map.specs.Ram.{InRam, in_ram}
 use Rattle.machine_model.specs.Image.{Segment, Image, IsLoadable, flat_image}
-use Rattle.format_model.specs.ImageFile.{◌>>=◌, Fault, Short, SegmentShape, SegmentOutside, NoSegment, EntryOutside, field_at, is_elf, kind_in, table_in, Load, segment_at, load_at, with_front, loads_at, share, first_shared, clash, overlap_after, image_at, elf_in, image_in, SegmentFits, ApartAfter, ImageFits}
+use Rattle.format_model.specs.Then.{◌>>=◌}
+use Rattle.format_model.specs.ImageFile.{Fault, Short, SegmentShape, SegmentOutside, NoSegment, EntryOutside, field_at, is_elf, kind_in, table_in, Load, segment_at, load_at, with_front, loads_at, share, first_shared, clash, overlap_after, image_at, elf_in, image_in, SegmentFits, ApartAfter, ImageFits}
 
 bind_ok : {A B : Type 0} (r : Result A Fault) (f : A → Result B Fault) (y : B) → (r >>= f) ≡ Ok y → (x : A) × (r ≡ Ok x) × (f x ≡ Ok y)
 bind_ok (Ok x) f y e = (x, refl, e)

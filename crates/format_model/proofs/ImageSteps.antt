@@ -1,7 +1,8 @@
 -- How the definitions of an image file go on, from one header or segment to the next.
 use Rattle.std.proofs.Common.{◌≡◌, ℕ, suc, ◌+◌, ◌-◌, ◌*◌, ◌<◌, ◌≤◌, List, [], ◌∷◌, ◌++◌, length, get_or, take, drop, Some, None, Result, Ok, Err, refl, sym, ap, ◌∙◌, append_assoc, arith}
 use Rattle.std.proofs.lemmas.List.{drop_more, drop_all, take_more}
-use Rattle.format_model.specs.ImageFile.{◌>>=◌, Fault, Overlap, Load, load_at, with_front, loads_at, first_shared, overlap_after}
+use Rattle.format_model.specs.Then.{◌>>=◌}
+use Rattle.format_model.specs.ImageFile.{Fault, Overlap, Load, load_at, with_front, loads_at, first_shared, overlap_after}
 
 pub with_none : (read : Result (List Load) Fault) → with_front [] read ≡ read
 with_none (Ok loads) = refl

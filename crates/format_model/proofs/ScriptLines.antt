@@ -7,7 +7,8 @@ use Rattle.std.proofs.lemmas.Bool.{lt-ltb, le-ltb, ltb-true, ltb-false, eqb-true
 use Rattle.std.proofs.lemmas.List.{append-nil, nil_from_length}
 use Rattle.machine_model.specs.Script.{Span, Entry, What, Serial, Tick, Latency, Script}
 use Rattle.format_model.specs.Script.{Line, Blank, Clock, Sectors, At, most_steps, most_sectors, IsWhat, IsLine, what_text, SpellsWhat, Spells, clocks, spans, entries, last_step, MayStand, StandAfter, SpellEach, period_of, script_of, longer, texts_of, IsScript, hex}
-use Rattle.format_model.specs.ScriptReading.{◌>>=◌, Broken, BadLine, Falling, TooMany, strip, cut, at_space, is_number, number_in, number_at, hex_at, serial_at, tick_at, latency_at, what_at, SoFar, nothing, with_line, clock_at, span_in, sectors_at, entry_in, entry_at, is_blank, line_at, at_line, lines_at, finished, script_in}
+use Rattle.format_model.specs.Then.{◌>>=◌}
+use Rattle.format_model.specs.ScriptReading.{Broken, BadLine, Falling, TooMany, strip, cut, at_space, is_number, number_in, number_at, hex_at, serial_at, tick_at, latency_at, what_at, SoFar, nothing, with_line, clock_at, span_in, sectors_at, entry_in, entry_at, is_blank, line_at, at_line, lines_at, script_so_far, script_in}
 use Rattle.format_model.proofs.ScriptParts.{bind_ok, ok_is, chosen_ok, passed_ok, either_of, taken, strip_found, cut_again, cut_found, decimal_digits, decimal_number, in_again, in_found, number_again, number_found, AreBytes, hex_again, hex_found}
 
 -- ---- what arrives
@@ -319,7 +320,7 @@ period_is : (periods : List ℕ) → option_map_or (λ (p : ℕ). p) (head_of pe
 period_is [] = refl
 period_is (p ∷ periods) = refl
 
-finished_is : (lines : List Line) → finished (heard lines) ≡ script_of lines
+finished_is : (lines : List Line) → script_so_far (heard lines) ≡ script_of lines
 finished_is lines = rw (period_is (clocks lines)) refl
 
 -- what is a file of a script is read as it
@@ -333,7 +334,7 @@ script_again file script is =
 pub script_found : (file : List ℕ) (script : Script) → AreBytes file → script_in file ≡ Ok script → IsScript file script
 unfolding script_in
 script_found file script fits e =
-    let read = then_ok (lines_at nothing 1 (texts_of file)) (λ so_far. Ok (finished so_far)) script e in
+    let read = then_ok (lines_at nothing 1 (texts_of file)) (λ so_far. Ok (script_so_far so_far)) script e in
     let found = lines_found [] (texts_of file) 1 read.0 (texts_fit file fits) read.1 in
-    let made : finished read.0 ≡ script = cc in
-    (found.0, found.1, found.2, sym made ∙ ap finished found.3 ∙ finished_is found.0)
+    let made : script_so_far read.0 ≡ script = cc in
+    (found.0, found.1, found.2, sym made ∙ ap script_so_far found.3 ∙ finished_is found.0)

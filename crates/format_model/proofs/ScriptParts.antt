@@ -8,7 +8,8 @@ use Rattle.std.proofs.lemmas.Bool.{cases_lt, lt-ltb, le-ltb, le-leb, lt-leb, ltb
 use Rattle.std.proofs.lemmas.Fmt.{digits_decimal, digits_value-decimal, decimal_nonempty, decimal_digit, first_decimal, decimal-digits_value}
 use Rattle.std.proofs.lemmas.Str.Parse.{IsNumeralModel, numerals_by_fold}
 use Rattle.format_model.specs.Script.{hex_digit, hex_pair, hex}
-use Rattle.format_model.specs.ScriptReading.{◌>>=◌, Broken, BadLine, BadNumber, strip, cut, is_number, leads_with_zero, value_after, value_of, number_in, number_at, hex_value, pair_at, pairs_at, hex_at}
+use Rattle.format_model.specs.Then.{◌>>=◌}
+use Rattle.format_model.specs.ScriptReading.{Broken, BadLine, BadNumber, strip, cut, is_number, leads_with_zero, value_after, value_of, number_in, number_at, hex_value, pair_at, pairs_at, hex_at}
 
 -- ---- results
 

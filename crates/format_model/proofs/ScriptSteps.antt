@@ -9,7 +9,8 @@ use Rattle.std.proofs.lemmas.List.{append-nil}
 use Rattle.std.proofs.lemmas.List.Sums.{sum_by-cons}
 use Rattle.machine_model.specs.Script.{Entry}
 use Rattle.format_model.specs.Script.{Line, last_step, texts_of, longer}
-use Rattle.format_model.specs.ScriptReading.{◌>>=◌, Broken, BadLine, strip, cut, value_after, pair_at, pairs_at, SoFar, with_line, line_at, lines_at}
+use Rattle.format_model.specs.Then.{◌>>=◌}
+use Rattle.format_model.specs.ScriptReading.{Broken, BadLine, strip, cut, value_after, pair_at, pairs_at, SoFar, with_line, line_at, lines_at}
 
 -- the last entry's step, by its place
 pub last_step_at : (entries : List Entry) (n : ℕ) (e : Entry) → n + 1 ≡ length entries → e ≡ get_or entries n e → last_step entries ≡ e.at
@@ -25,7 +26,7 @@ tested : (t p : Bool) (s : Option (List ℕ)) (x : List ℕ) → s ≡ cond p (S
 tested true p s x e = e
 tested false p s x e = refl
 
--- a word is stripped where the text's front is the word
+-- a word is stripped where the text begins with the word
 pub strip_by : (word text : List ℕ) → strip word text ≡ cond (pointwise eqb (take (length word) text) word) (Some (drop (length word) text)) None
 strip_by [] text = refl
 strip_by (w ∷ word) [] = refl

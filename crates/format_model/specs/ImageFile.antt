@@ -5,6 +5,7 @@ use Rattle.std.specs.Int.{w32, from_le_bytes}
 use Rattle.std.specs.List.{AllByRecursion}
 use Rattle.memory_map.specs.Ram.{in_ram, InRam}
 use Rattle.machine_model.specs.Image.{Segment, Image, IsLoadable, flat_image}
+use Rattle.format_model.specs.Then.{◌>>=◌}
 
 -- why a file gives no image
 pub data Fault : Type 0 where
@@ -17,19 +18,16 @@ pub data Fault : Type 0 where
   NoSegment : Fault
   EntryOutside : Fault
 
--- the value of a part, or the first fault
-infixl 10 ◌>>=◌
-abbrev pub ◌>>=◌ : {A B : Type 0} → Result A Fault → (A → Result B Fault) → Result B Fault
-(Ok x) >>= f = f x
-(Err e) >>= f = Err e
-
 -- a field of so many bytes at a place
 abbrev pub field_at : List ℕ → ℕ → ℕ → ℕ
 field_at file at width = from_le_bytes w32 (take width (drop at file))
 
 -- the file begins as one with a header does
 abbrev pub is_elf : List ℕ → Bool
-is_elf file = nat_le 4 (length file) && (slice_index file 0 == 127 && (slice_index file 1 == 69 && (slice_index file 2 == 76 && slice_index file 3 == 70)))
+is_elf file =
+    nat_le 4 (length file)
+    && (slice_index file 0 == 127
+    && (slice_index file 1 == 69 && (slice_index file 2 == 76 && slice_index file 3 == 70)))
 
 -- the fields that have one value alone: 32 bits, little-endian, version 1; an executable file, for RISC-V
 unfoldable pub kind_in : List ℕ → Result (Unit {0}) Fault
@@ -50,7 +48,8 @@ unfoldable pub table_in : List ℕ → Result Table Fault
 table_in file =
     if field_at file 44 2 == 0 then Err NoSegment
     else if nat_lt 64 (field_at file 44 2) || not (field_at file 42 2 == 32) then Err BadTable
-    else if nat_lt (length file) (field_at file 28 4 + 32 * field_at file 44 2) then Err (Short (field_at file 28 4 + 32 * field_at file 44 2))
+    else if nat_lt (length file) (field_at file 28 4 + 32 * field_at file 44 2)
+    then Err (Short (field_at file 28 4 + 32 * field_at file 44 2))
     else Ok (record { start = field_at file 28 4; count = field_at file 44 2 })
 
 -- a segment that is loaded, and the number of its header
@@ -68,9 +67,12 @@ segment_at file at =
 unfoldable pub load_at : List ℕ → ℕ → ℕ → ℕ → Result (List Load) Fault
 load_at file size at index =
     if not (field_at file at 4 == 1) || field_at file (at + 20) 4 == 0 then Ok []
-    else if nat_lt (field_at file (at + 20) 4) (field_at file (at + 16) 4) then Err (SegmentShape index)
-    else if nat_lt (length file) (field_at file (at + 4) 4 + field_at file (at + 16) 4) then Err (Short (field_at file (at + 4) 4 + field_at file (at + 16) 4))
-    else if not (in_ram size (field_at file (at + 12) 4) (field_at file (at + 20) 4)) then Err (SegmentOutside index)
+    else if nat_lt (field_at file (at + 20) 4) (field_at file (at + 16) 4)
+    then Err (SegmentShape index)
+    else if nat_lt (length file) (field_at file (at + 4) 4 + field_at file (at + 16) 4)
+    then Err (Short (field_at file (at + 4) 4 + field_at file (at + 16) 4))
+    else if not (in_ram size (field_at file (at + 12) 4) (field_at file (at + 20) 4))
+    then Err (SegmentOutside index)
     else Ok (record { index = index; segment = segment_at file at } ∷ [])
 
 -- these loads, and those that are read after them
@@ -86,12 +88,14 @@ loads_at (suc count) file size start index = do
 
 -- two segments share an address
 abbrev pub share : Segment → Segment → Bool
-share one other = nat_lt one.address (other.address + other.size) && nat_lt other.address (one.address + one.size)
+share one other =
+    nat_lt one.address (other.address + other.size) && nat_lt other.address (one.address + one.size)
 
 -- the number of the first of these that shares an address with a segment
 abbrev pub first_shared : Segment → List Load → Option ℕ
 first_shared segment [] = None
-first_shared segment (load ∷ loads) = if share load.segment segment then Some load.index else first_shared segment loads
+first_shared segment (load ∷ loads) =
+    if share load.segment segment then Some load.index else first_shared segment loads
 
 -- a clash of two segments, or what comes later
 abbrev pub clash : Option ℕ → ℕ → Result (Unit {0}) Fault → Result (Unit {0}) Fault
@@ -101,13 +105,15 @@ clash (Some first) second later = Err (Overlap first second)
 -- the first segment that shares an address with one before it, and the first of those
 unfoldable pub overlap_after : List Load → List Load → Result (Unit {0}) Fault
 overlap_after before [] = Ok tt
-overlap_after before (load ∷ loads) = clash (first_shared load.segment before) load.index (overlap_after (before ++ load ∷ []) loads)
+overlap_after before (load ∷ loads) =
+    clash (first_shared load.segment before) load.index (overlap_after (before ++ load ∷ []) loads)
 
 -- the image of loads that are apart
 unfoldable pub image_at : List ℕ → ℕ → List Load → Result Image Fault
 image_at file size loads =
     if length loads == 0 then Err NoSegment
-    else if not (in_ram size (field_at file 24 4) 1 && field_at file 24 4 % 4 == 0) then Err EntryOutside
+    else if not (in_ram size (field_at file 24 4) 1 && field_at file 24 4 % 4 == 0)
+    then Err EntryOutside
     else Ok (record { entry = field_at file 24 4; segments = map (λ load. load.segment) loads })
 
 -- the image of a file with a header, for a RAM of so many bytes
@@ -135,7 +141,9 @@ pub record SegmentFits (size : ℕ) (segment : Segment) : Type 0 where
 -- no segment shares an address with one before it
 abbrev pub ApartAfter : List Segment → List Segment → Type 0
 ApartAfter before [] = Unit {0}
-ApartAfter before (segment ∷ segments) = AllByRecursion (λ other. share other segment ≡ false) before × ApartAfter (before ++ segment ∷ []) segments
+ApartAfter before (segment ∷ segments) =
+    AllByRecursion (λ other. share other segment ≡ false) before
+    × ApartAfter (before ++ segment ∷ []) segments
 
 -- an image fits a RAM of this many bytes: its segments stand there, apart, and it starts there, at a multiple of 4
 pub record ImageFits (size : ℕ) (image : Image) : Type 0 where

@@ -1,3 +1,4 @@
 pub mod Script
+pub mod Then
 pub mod ScriptReading
 pub mod ImageFile

@@ -21,7 +21,8 @@ most_sectors = 32767
 
 -- what may arrive: one byte or more, each with a mark of 0 or 1; ticks; a latency
 abbrev pub IsWhat : model.What → Type 0
-IsWhat (model.Serial bytes mark) = (0 < length bytes) × AllByRecursion (λ b. b < 256) bytes × (mark ≤ 1)
+IsWhat (model.Serial bytes mark) =
+    (0 < length bytes) × AllByRecursion (λ b. b < 256) bytes × (mark ≤ 1)
 IsWhat (model.Tick count) = (1 ≤ count) × (count ≤ 4294967295)
 IsWhat (model.Latency steps) = (1 ≤ steps) × (steps ≤ 1000000)
 
@@ -45,13 +46,16 @@ hex bytes = flat_map hex_pair bytes
 
 -- bytes are spelled by their word, which tells the mark, and in hexadecimal
 abbrev pub what_text : model.What → List ℕ
-what_text (model.Serial bytes mark) = (if mark == 0 then codes "serial " else codes "marked ") ++ hex bytes
+what_text (model.Serial bytes mark) =
+    (if mark == 0 then codes "serial " else codes "marked ") ++ hex bytes
 what_text (model.Tick count) = codes "tick " ++ decimal count
 what_text (model.Latency steps) = codes "latency " ++ decimal steps
 
 -- or, where they end with a line feed and have no mark, as the text before it
 abbrev pub SpellsWhat : model.What → List ℕ → Type 0
-SpellsWhat (model.Serial bytes mark) text = (text ≡ what_text (model.Serial bytes mark)) ⊎ ((front : List ℕ) × (text ≡ codes "line " ++ front) × (bytes ≡ front ++ 10 ∷ []) × (mark ≡ 0))
+SpellsWhat (model.Serial bytes mark) text =
+    (text ≡ what_text (model.Serial bytes mark))
+    ⊎ ((front : List ℕ) × (text ≡ codes "line " ++ front) × (bytes ≡ front ++ 10 ∷ []) × (mark ≡ 0))
 SpellsWhat (model.Tick count) text = text ≡ what_text (model.Tick count)
 SpellsWhat (model.Latency steps) text = text ≡ what_text (model.Latency steps)
 
@@ -59,8 +63,11 @@ SpellsWhat (model.Latency steps) text = text ≡ what_text (model.Latency steps)
 abbrev pub Spells : Line → List ℕ → Type 0
 Spells Blank text = (text ≡ []) ⊎ ((rest : List ℕ) × (text ≡ 35 ∷ rest))
 Spells (Clock period) text = text ≡ codes "clock " ++ decimal period
-Spells (Sectors span) text = text ≡ codes "sectors " ++ (decimal span.first ++ 32 ∷ decimal span.last)
-Spells (At entry) text = (what : List ℕ) × (text ≡ codes "at " ++ (decimal entry.at ++ 32 ∷ what)) × SpellsWhat entry.what what
+Spells (Sectors span) text =
+    text ≡ codes "sectors " ++ (decimal span.first ++ 32 ∷ decimal span.last)
+Spells (At entry) text =
+    (what : List ℕ) × (text ≡ codes "at " ++ (decimal entry.at ++ 32 ∷ what))
+    × SpellsWhat entry.what what
 
 -- what the lines of a script say, each kind by itself
 abbrev pub clocks : List Line → List ℕ
@@ -96,12 +103,14 @@ abbrev pub MayStand : List Line → Line → Type 0
 MayStand before Blank = Unit {0}
 MayStand before (Clock period) = (clocks before ≡ []) × (entries before ≡ [])
 MayStand before (Sectors span) = (entries before ≡ []) × (length (spans before) < 256)
-MayStand before (At entry) = (last_step (entries before) ≤ entry.at) × (length (entries before) < 65536)
+MayStand before (At entry) =
+    (last_step (entries before) ≤ entry.at) × (length (entries before) < 65536)
 
 -- each line is one that may be, and stands where it may
 abbrev pub StandAfter : List Line → List Line → Type 0
 StandAfter before [] = Unit {0}
-StandAfter before (line ∷ lines) = IsLine line × MayStand before line × StandAfter (before ++ line ∷ []) lines
+StandAfter before (line ∷ lines) =
+    IsLine line × MayStand before line × StandAfter (before ++ line ∷ []) lines
 
 -- the texts spell the lines, one for one
 abbrev pub SpellEach : List Line → List (List ℕ) → Type 0
@@ -116,7 +125,11 @@ period_of [] = 100
 period_of (period ∷ others) = period
 
 abbrev pub script_of : List Line → Script
-script_of lines = record { clock = period_of (clocks lines); sectors = spans lines; entries = entries lines }
+script_of lines = record {
+  clock = period_of (clocks lines);
+  sectors = spans lines;
+  entries = entries lines;
+}
 
 -- a byte before these texts: it begins the first one
 abbrev pub longer : ℕ → List (List ℕ) → List (List ℕ)
@@ -130,7 +143,9 @@ texts_of (b ∷ bs) = if b == 10 then [] ∷ texts_of bs else longer b (texts_of
 
 -- the bytes are a file of this script
 abbrev pub IsScript : List ℕ → Script → Type 0
-IsScript file script = (lines : List Line) × SpellEach lines (texts_of file) × StandAfter [] lines × (script ≡ script_of lines)
+IsScript file script =
+    (lines : List Line) × SpellEach lines (texts_of file) × StandAfter [] lines
+    × (script ≡ script_of lines)
 
 -- The canonical text: the clock always, then the sectors, then the entries, each line with its line feed.
 abbrev pub clock_line : ℕ → List ℕ
@@ -143,4 +158,6 @@ abbrev pub entry_line : Entry → List ℕ
 entry_line entry = codes "at " ++ (decimal entry.at ++ 32 ∷ (what_text entry.what ++ 10 ∷ []))
 
 unfoldable pub printed : Script → List ℕ
-printed script = clock_line script.clock ++ flat_map span_line script.sectors ++ flat_map entry_line script.entries
+printed script =
+    clock_line script.clock ++ flat_map span_line script.sectors
+    ++ flat_map entry_line script.entries

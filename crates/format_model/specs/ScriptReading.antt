@@ -5,6 +5,7 @@ use Rattle.std.specs.Char.{is_ascii_digit}
 use Rattle.std.specs.List.{list_all}
 use Rattle.machine_model.specs.Script.{Span, Entry, Script, What}
 use Rattle.machine_model.specs.Script as model
+use Rattle.format_model.specs.Then.{◌>>=◌}
 use Rattle.format_model.specs.Script.{Line, Blank, Clock, Sectors, At, most_steps, most_sectors, last_step, texts_of}
 
 -- what may be wrong with a line, in the order in which it is told
@@ -13,12 +14,6 @@ pub data Broken : Type 0 where
   BadNumber : Broken
   Falling : Broken
   TooMany : Broken
-
--- the value of a part, or the first fault
-infixl 10 ◌>>=◌
-abbrev pub ◌>>=◌ : {A B E : Type 0} → Result A E → (A → Result B E) → Result B E
-(Ok x) >>= f = f x
-(Err e) >>= f = Err e
 
 -- what stands after a word, where the text begins with it
 abbrev pub strip : List ℕ → List ℕ → Option (List ℕ)
@@ -52,7 +47,10 @@ value_of digits = value_after 0 digits
 
 -- the value of digits that have no leading zero and are within these ends
 unfoldable pub number_in : ℕ → ℕ → List ℕ → Result ℕ Broken
-number_in least most digits = if leads_with_zero digits || (nat_lt (value_of digits) least || nat_lt most (value_of digits)) then Err BadNumber else Ok (value_of digits)
+number_in least most digits =
+    if leads_with_zero digits || (nat_lt (value_of digits) least || nat_lt most (value_of digits))
+    then Err BadNumber
+    else Ok (value_of digits)
 
 -- a number alone
 unfoldable pub number_at : ℕ → ℕ → List ℕ → Result ℕ Broken
@@ -60,7 +58,10 @@ number_at least most text = if is_number text then number_in least most text els
 
 -- the value of a digit of lower case hexadecimal
 unfoldable pub hex_value : ℕ → Result ℕ Broken
-hex_value c = if nat_le 48 c && nat_le c 57 then Ok (c - 48) else if nat_le 97 c && nat_le c 102 then Ok (c - 87) else Err BadLine
+hex_value c =
+    if nat_le 48 c && nat_le c 57 then Ok (c - 48)
+    else if nat_le 97 c && nat_le c 102 then Ok (c - 87)
+    else Err BadLine
 
 -- the byte of a pair of such digits
 unfoldable pub pair_at : ℕ → ℕ → Result ℕ Broken
@@ -123,7 +124,8 @@ with_line so_far (At entry) = record so_far { entries = so_far.entries ++ entry 
 
 -- a clock, where one may stand
 unfoldable pub clock_at : Bool → List ℕ → Result Line Broken
-clock_at may_stand text = if may_stand then (number_at 1 most_steps text >>= λ period. Ok (Clock period)) else Err BadLine
+clock_at may_stand text =
+    if may_stand then (number_at 1 most_steps text >>= λ period. Ok (Clock period)) else Err BadLine
 
 -- the numbers of a span: a last one below the first is out of range
 unfoldable pub span_in : List ℕ → List ℕ → Result Span Broken
@@ -137,18 +139,23 @@ unfoldable pub sectors_at : Bool → ℕ → List ℕ → Result Line Broken
 sectors_at may_stand count text = do
   words ← at_space text
   if may_stand && (is_number words.0 && is_number words.1)
-      then (span_in words.0 words.1 >>= λ span. if nat_lt count 256 then Ok (Sectors span) else Err TooMany)
+      then (span_in words.0 words.1 >>= λ span. if nat_lt count 256 then Ok (Sectors span)
+      else Err TooMany)
       else Err BadLine
 
 -- an entry after this many others, of which the last is at this step
 unfoldable pub entry_in : ℕ → ℕ → ℕ → What → Result Line Broken
-entry_in last count step arriving = if nat_lt step last then Err Falling else if nat_lt count 65536 then Ok (At (record { at = step; what = arriving })) else Err TooMany
+entry_in last count step arriving =
+    if nat_lt step last then Err Falling
+    else if nat_lt count 65536 then Ok (At (record { at = step; what = arriving }))
+    else Err TooMany
 
 unfoldable pub entry_at : ℕ → ℕ → List ℕ → Result Line Broken
 entry_at last count text = do
   words ← at_space text
   if is_number words.0
-      then (what_at words.1 >>= λ arriving. number_in 0 most_steps words.0 >>= λ step. entry_in last count step arriving)
+      then (what_at words.1 >>= λ arriving. number_in 0 most_steps words.0
+      >>= λ step. entry_in last count step arriving)
       else Err BadLine
 
 abbrev pub is_blank : List ℕ → Bool
@@ -158,7 +165,8 @@ is_blank (b ∷ bs) = b == 35
 -- what the next line says, after what was said so far
 unfoldable pub line_at : SoFar → List ℕ → Result Line Broken
 line_at so_far text = if is_blank text then Ok Blank else
-    option_map_or (clock_at (is_none so_far.clock && length so_far.entries == 0)) (strip (codes "clock ") text)
+    option_map_or (clock_at (is_none so_far.clock && length so_far.entries == 0))
+    (strip (codes "clock ") text)
     (option_map_or (sectors_at (length so_far.entries == 0) (length so_far.sectors)) (strip (codes "sectors ") text)
     (option_map_or (entry_at (last_step so_far.entries) (length so_far.entries)) (strip (codes "at ") text) (Err BadLine)))
 
@@ -170,13 +178,19 @@ at_line number (Err broken) = Err (number, broken)
 -- the lines of these texts, of which the first has this number
 unfoldable pub lines_at : SoFar → ℕ → List (List ℕ) → Result SoFar (ℕ × Broken)
 lines_at so_far number [] = Ok so_far
-lines_at so_far number (text ∷ texts) = at_line number (line_at so_far text) >>= λ line. lines_at (with_line so_far line) (number + 1) texts
+lines_at so_far number (text ∷ texts) =
+    at_line number (line_at so_far text)
+    >>= λ line. lines_at (with_line so_far line) (number + 1) texts
 
-abbrev pub finished : SoFar → Script
-finished so_far = record { clock = option_map_or (λ period. period) so_far.clock 100; sectors = so_far.sectors; entries = so_far.entries }
+abbrev pub script_so_far : SoFar → Script
+script_so_far so_far = record {
+  clock = option_map_or (λ period. period) so_far.clock 100;
+  sectors = so_far.sectors;
+  entries = so_far.entries;
+}
 
 -- the script of a file, or the first broken line, by its number from 1, and what is wrong with it
 unfoldable pub script_in : List ℕ → Result Script (ℕ × Broken)
 script_in file = do
   so_far ← lines_at nothing 1 (texts_of file)
-  Ok (finished so_far)
+  Ok (script_so_far so_far)

@@ -34,7 +34,14 @@ pub data Outcome : Type 0 where
 
 -- it does nothing but go on to the next instruction
 abbrev pub going_on : State → ℕ → Effect
-going_on s size = record { rd = 0; value = 0; next = sum s.pc size; access = access.Quiet; csrs = s.csrs; reservation = s.reservation }
+going_on s size = record {
+  rd = 0;
+  value = 0;
+  next = sum s.pc size;
+  access = access.Quiet;
+  csrs = s.csrs;
+  reservation = s.reservation;
+}
 
 -- it writes a register, and goes on
 abbrev pub writing : State → ℕ → (rd value : ℕ) → Effect
@@ -43,16 +50,21 @@ writing s size rd value = record (going_on s size) { rd = rd; value = value }
 -- it jumps, with the address of the next instruction in rd; a target where no instruction can begin is exception 0.
 -- (Unprivileged manual, 2.5.)
 abbrev pub jumping : State → ℕ → (rd target : ℕ) → Outcome
-jumping s size rd target = if target % grain == 0 then Does (record (writing s size rd (sum s.pc size)) { next = target }) else Raises 0 target
+jumping s size rd target =
+    if target % grain == 0 then Does (record (writing s size rd (sum s.pc size)) { next = target })
+    else Raises 0 target
 
 -- the low bytes of a word, extended by zero
 abbrev pub low_bytes : (width word : ℕ) → ℕ
 low_bytes width word = word % 2 ^ (8 * width)
 
 -- an access is looked at in this order: it is misaligned, it is in RAM, it is elsewhere. (Privileged manual, 3.1.15, table 3.7.)
-abbrev pub accessing : State → (address width misaligned : ℕ) → (in_memory elsewhere : Outcome) → Outcome
+abbrev pub accessing : State → (address width misaligned : ℕ) → (in_memory elsewhere : Outcome)
+    → Outcome
 accessing s address width misaligned in_memory elsewhere =
-    if address % width == 0 then (if in_ram (length s.ram) address width then in_memory else elsewhere) else Raises misaligned address
+    if address % width == 0
+    then (if in_ram (length s.ram) address width then in_memory else elsewhere)
+    else Raises misaligned address
 
 -- what was supplied, and its mark; 0 where nothing was
 abbrev pub value_of : Option Supplied → ℕ
@@ -76,7 +88,9 @@ loading_device s supplied size op rd address =
     else Raises 5 address
 
 abbrev pub loading : State → Option Supplied → ℕ → LoadOp → (rd address : ℕ) → Outcome
-loading s supplied size op rd address = accessing s address (load_width op) 4 (loading_ram s size op rd address) (loading_device s supplied size op rd address)
+loading s supplied size op rd address =
+    accessing s address (load_width op) 4 (loading_ram s size op rd address)
+    (loading_device s supplied size op rd address)
 
 -- a store, to RAM or to a device register. (Unprivileged manual, 2.6.)
 abbrev pub storing_at : State → ℕ → StoreOp → (value address : ℕ) → Bool → Outcome
@@ -85,7 +99,8 @@ storing_at s size op value address device =
 
 abbrev pub storing : State → ℕ → StoreOp → (value address : ℕ) → Outcome
 storing s size op value address =
-    accessing s address (store_width op) 6 (storing_at s size op value address false) (if is_device address then storing_at s size op value address true else Raises 7 address)
+    accessing s address (store_width op) 6 (storing_at s size op value address false)
+    (if is_device address then storing_at s size op value address true else Raises 7 address)
 
 -- the reservation is of the word at this address
 abbrev pub is_reserved : Option ℕ → ℕ → Bool
@@ -102,11 +117,15 @@ reserving s size rd address =
 abbrev pub storing_reserved : State → ℕ → (rd value address : ℕ) → Effect
 storing_reserved s size rd value address =
     if is_reserved s.reservation address
-    then record (writing s size rd 0) { access = access.Store address 4 value false; reservation = None }
+    then record (writing s size rd 0) {
+      access = access.Store address 4 value false;
+      reservation = None;
+    }
     else record (writing s size rd 1) { reservation = None }
 
 abbrev pub conditional : State → ℕ → (rd value address : ℕ) → Outcome
-conditional s size rd value address = accessing s address 4 6 (Does (storing_reserved s size rd value address)) (Raises 7 address)
+conditional s size rd value address =
+    accessing s address 4 6 (Does (storing_reserved s size rd value address)) (Raises 7 address)
 
 -- an atomic operation on a word, whose old value goes to rd. (Unprivileged manual, 8.4.)
 abbrev pub swapping : State → ℕ → AtomicOp → (rd value address : ℕ) → Outcome
@@ -140,4 +159,5 @@ csr_write s size op word rd source csr (Some old) =
     csr_kept s size word rd old (if writes_csr op source then written s.csrs csr (csr_result op old (csr_operand s op source)) else Some s.csrs)
 
 abbrev pub csr_of : State → (lines : ℕ) → ℕ → CsrOp → (word rd source csr : ℕ) → Outcome
-csr_of s lines size op word rd source csr = csr_write s size op word rd source csr (csr_read s lines op rd csr)
+csr_of s lines size op word rd source csr =
+    csr_write s size op word rd source csr (csr_read s lines op rd csr)

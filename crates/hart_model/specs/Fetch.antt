@@ -24,4 +24,7 @@ grain = GRAIN
 -- the fetch at a pc: each instruction has four bytes
 abbrev pub fetched : List ℕ → ℕ → Fetch
 fetched ram pc =
-    if in_ram (length ram) pc 4 then Found (record { word = loaded ram pc 4; size = 4; instr = instruction (loaded ram pc 4) }) else Outside pc
+    if in_ram (length ram) pc 4
+    then Found
+    (record { word = loaded ram pc 4; size = 4; instr = instruction (loaded ram pc 4) })
+    else Outside pc

@@ -12,7 +12,10 @@ use Rattle.hart_model.specs.State.{State, register}
 -- an aligned load outside RAM needs the device register that begins there, if one does
 abbrev pub need_at : State → (address width : ℕ) → Need
 need_at s address width =
-    if address % width == 0 then (if in_ram (length s.ram) address width then Nothing else (if is_device address then Load address width else Nothing)) else Nothing
+    if address % width == 0
+    then (if in_ram (length s.ram) address width then Nothing
+    else (if is_device address then Load address width else Nothing))
+    else Nothing
 
 -- and no other instruction needs anything
 abbrev pub need_by : State → Instr → Need

@@ -31,8 +31,19 @@ with_register registers rd value = slice_set registers rd (taken rd value)
 
 -- x10, x11 and x12
 abbrev pub told_by : List ℕ → Told
-told_by registers = record { a0 = slice_index registers 10; a1 = slice_index registers 11; a2 = slice_index registers 12 }
+told_by registers = record {
+  a0 = slice_index registers 10;
+  a1 = slice_index registers 11;
+  a2 = slice_index registers 12;
+}
 
 -- the hart at step 0 over this RAM
 abbrev pub reset_state : List ℕ → ℕ → State
-reset_state ram entry = record { registers = replicate 32 0; pc = entry; csrs = reset; ram = ram; reservation = None; step = 0 }
+reset_state ram entry = record {
+  registers = replicate 32 0;
+  pc = entry;
+  csrs = reset;
+  ram = ram;
+  reservation = None;
+  step = 0;
+}

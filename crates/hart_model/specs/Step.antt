@@ -22,21 +22,30 @@ use Rattle.hart_model.specs.State.{State, register, taken, with_register, told_b
 -- (Unprivileged manual, chapters 2, 3, 7, 8 and 9; Privileged manual, 3.3.)
 unfoldable pub outcome : State → (lines : ℕ) → Option Supplied → (word size : ℕ) → Instr → Outcome
 outcome s lines supplied word size (instr.Lui rd imm) = Does (writing s size rd (bits imm))
-outcome s lines supplied word size (instr.Auipc rd imm) = Does (writing s size rd (sum s.pc (bits imm)))
+outcome s lines supplied word size (instr.Auipc rd imm) =
+    Does (writing s size rd (sum s.pc (bits imm)))
 outcome s lines supplied word size (instr.Jal rd imm) = jumping s size rd (sum s.pc (bits imm))
 outcome s lines supplied word size (instr.Jalr rd rs1 imm) = let target = sum (register s rs1) (bits imm) in jumping s size rd (target - target % 2)
 outcome s lines supplied word size (instr.Branch op rs1 rs2 imm) =
-    if is_taken op (register s rs1) (register s rs2) then jumping s size 0 (sum s.pc (bits imm)) else Does (going_on s size)
-outcome s lines supplied word size (instr.Load op rd rs1 imm) = loading s supplied size op rd (sum (register s rs1) (bits imm))
-outcome s lines supplied word size (instr.Store op rs1 rs2 imm) = storing s size op (register s rs2) (sum (register s rs1) (bits imm))
-outcome s lines supplied word size (instr.OpImm op rd rs1 imm) = Does (writing s size rd (immediate_result op (register s rs1) (bits imm)))
-outcome s lines supplied word size (instr.Op op rd rs1 rs2) = Does (writing s size rd (register_result op (register s rs1) (register s rs2)))
+    if is_taken op (register s rs1) (register s rs2) then jumping s size 0 (sum s.pc (bits imm))
+    else Does (going_on s size)
+outcome s lines supplied word size (instr.Load op rd rs1 imm) =
+    loading s supplied size op rd (sum (register s rs1) (bits imm))
+outcome s lines supplied word size (instr.Store op rs1 rs2 imm) =
+    storing s size op (register s rs2) (sum (register s rs1) (bits imm))
+outcome s lines supplied word size (instr.OpImm op rd rs1 imm) =
+    Does (writing s size rd (immediate_result op (register s rs1) (bits imm)))
+outcome s lines supplied word size (instr.Op op rd rs1 rs2) =
+    Does (writing s size rd (register_result op (register s rs1) (register s rs2)))
 outcome s lines supplied word size (instr.Fence op rd rs1 imm) = Does (going_on s size)
-outcome s lines supplied word size (instr.Atomic op rd rs1 rs2 order) = atomic s size op rd (register s rs2) (register s rs1)
-outcome s lines supplied word size (instr.Csr op rd source csr) = csr_of s lines size op word rd source csr
+outcome s lines supplied word size (instr.Atomic op rd rs1 rs2 order) =
+    atomic s size op rd (register s rs2) (register s rs1)
+outcome s lines supplied word size (instr.Csr op rd source csr) =
+    csr_of s lines size op word rd source csr
 outcome s lines supplied word size instr.Ecall = Raises 11 0
 outcome s lines supplied word size instr.Ebreak = Raises 3 0
-outcome s lines supplied word size instr.Mret = Does (record (going_on s size) { next = s.csrs.mepc; csrs = left s.csrs })
+outcome s lines supplied word size instr.Mret =
+    Does (record (going_on s size) { next = s.csrs.mepc; csrs = left s.csrs })
 outcome s lines supplied word size instr.Wfi = Does (going_on s size)
 
 -- the RAM after an access, which says what is stored
@@ -49,7 +58,8 @@ ram_after ram (Swap address old new) = stored ram address 4 new
 
 -- the event and the state of an instruction that was executed
 abbrev pub executed_event : State → ℕ → Effect → Event
-executed_event s word e = Exec s.step s.pc word e.next (taken e.rd e.value) e.access (told_by s.registers)
+executed_event s word e =
+    Exec s.step s.pc word e.next (taken e.rd e.value) e.access (told_by s.registers)
 
 abbrev pub executed_state : State → Effect → State
 executed_state s e =
@@ -64,11 +74,16 @@ executed_state s e =
 
 -- the state after a trap of this cause and value. A trap retires no instruction.
 abbrev pub trapped_state : State → (cause value : ℕ) → State
-trapped_state s cause value = record s { pc = vector s.csrs cause; csrs = counted (entered s.csrs cause s.pc value) false; step = s.step + 1 }
+trapped_state s cause value = record s {
+  pc = vector s.csrs cause;
+  csrs = counted (entered s.csrs cause s.pc value) false;
+  step = s.step + 1;
+}
 
 -- an exception at the instruction of this word; an interrupt in place of the instruction, which has the value 0
 abbrev pub trapped : State → (word cause value : ℕ) → Event × State
-trapped s word cause value = (Trap s.step s.pc word cause value (vector s.csrs cause), trapped_state s cause value)
+trapped s word cause value =
+    (Trap s.step s.pc word cause value (vector s.csrs cause), trapped_state s cause value)
 
 abbrev pub interrupted : State → (cause : ℕ) → Event × State
 interrupted s cause = (Irq s.step s.pc cause (vector s.csrs cause), trapped_state s cause 0)
@@ -79,9 +94,11 @@ step_by s word (Does e) = (executed_event s word e, executed_state s e)
 step_by s word (Raises cause value) = trapped s word cause value
 
 -- a word that is no instruction is exception 2, with the word as its value
-abbrev pub after_decode : State → (lines : ℕ) → Option Supplied → (word size : ℕ) → Option Instr → Event × State
+abbrev pub after_decode : State → (lines : ℕ) → Option Supplied → (word size : ℕ) → Option Instr
+    → Event × State
 after_decode s lines supplied word size None = step_by s word (Raises 2 word)
-after_decode s lines supplied word size (Some i) = step_by s word (outcome s lines supplied word size i)
+after_decode s lines supplied word size (Some i) =
+    step_by s word (outcome s lines supplied word size i)
 
 -- a fetch outside RAM is exception 1, with the address as its value
 abbrev pub after_fetch : State → (lines : ℕ) → Option Supplied → Fetch → Event × State

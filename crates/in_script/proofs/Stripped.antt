@@ -1,4 +1,4 @@
--- What std's test of a front says, as the definition of a word does.
+-- What std's test of a prefix says, as the definition of a word does.
 use Rattle.std.proofs.Common.{◌≡◌, ℕ, ◌+◌, true, false, eqb, List, length, take, drop, Option, Some, None, MatchOption, option_copied, Bor, refl, ap}
 use Rattle.std.specs.Cmp.Lexicographic.{pointwise}
 use Rattle.format_model.specs.ScriptReading.{strip}

@@ -7,12 +7,12 @@ use Rattle.in_script.specs.declared.fault.ScriptFault.TheVariants as fault
 use Rattle.format_model.specs.ScriptReading as model
 
 -- the fault of a line of this number
-abbrev pub names : Broken → ℕ → ScriptFault
-names broken.BadLine line = fault.BadLine line
-names broken.BadNumber line = fault.BadNumber line
-names broken.Falling line = fault.Falling line
-names broken.TooMany line = fault.TooMany line
-names broken.NoMemory line = fault.NoMemory
+abbrev pub fault_at : Broken → ℕ → ScriptFault
+fault_at broken.BadLine line = fault.BadLine line
+fault_at broken.BadNumber line = fault.BadNumber line
+fault_at broken.Falling line = fault.Falling line
+fault_at broken.TooMany line = fault.TooMany line
+fault_at broken.NoMemory line = fault.NoMemory
 
 -- a part that was refused is refused for this by the definition, unless there was no memory
 abbrev pub Refuses : {Y : Type 0} → Broken → Result Y model.Broken → Type 0
@@ -35,6 +35,7 @@ RefusesAt (fault.Falling line) read = read ≡ Err (line, model.Falling)
 RefusesAt (fault.TooMany line) read = read ≡ Err (line, model.TooMany)
 RefusesAt fault.NoMemory read = Unit {0}
 
-abbrev pub Reads : {X Y : Type 0} → (X → Y) → Result X ScriptFault → Result Y (ℕ × model.Broken) → Type 0
-Reads view (Ok x) read = read ≡ Ok (view x)
-Reads view (Err e) read = RefusesAt e read
+abbrev pub GivesFile : {X Y : Type 0} → (X → Y) → Result X ScriptFault → Result Y (ℕ × model.Broken)
+    → Type 0
+GivesFile view (Ok x) read = read ≡ Ok (view x)
+GivesFile view (Err e) read = RefusesAt e read

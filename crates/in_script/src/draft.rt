@@ -1,7 +1,7 @@
 //! What the lines of a script have said so far.
 ghost use Rattle.std.specs.Prelude.{◌≡◌, OnOk};
 ghost use Rattle.format_model.specs.Script.{last_step};
-ghost use Rattle.format_model.specs.ScriptReading.{nothing, with_line, line_at, finished};
+ghost use Rattle.format_model.specs.ScriptReading.{nothing, with_line, line_at, script_so_far};
 ghost use Rattle.in_script.specs.Lines.{says};
 ghost use Rattle.in_script.specs.Reads.{Gives};
 
@@ -29,7 +29,11 @@ impl Model for Draft {
 
     ghost Value = { SoFar };
 
-    ghost view = { λ d. record { clock = d.clock; sectors = d.sectors.items; entries = d.entries.items } };
+    ghost view = { λ d. record {
+      clock = d.clock;
+      sectors = d.sectors.items;
+      entries = d.entries.items;
+    } };
 }
 
 fn last_step(entries: &[Entry]) -> u32
@@ -91,7 +95,7 @@ impl Draft {
 
     // The script, after the last line.
     pub(crate) fn finish(self) -> Script
-        ensures { result ≡ finished self }
+        ensures { result ≡ script_so_far self }
     {
         let Draft {
             clock,

@@ -1,7 +1,7 @@
 //! What may be wrong with a script.
 ghost use Rattle.std.specs.Prelude.{◌≡◌};
 ghost use Rattle.in_script.specs.declared.fault.Broken.TheVariants.{NoMemory};
-ghost use Rattle.in_script.specs.Reads.{names};
+ghost use Rattle.in_script.specs.Reads.{fault_at};
 
 use std::alloc::{AllocError, AllocFailed};
 
@@ -33,7 +33,7 @@ pub(crate) enum Broken {
 
 impl Broken {
     pub(crate) fn at(self, line: u32) -> ScriptFault
-        ensures { result ≡ names self line }
+        ensures { result ≡ fault_at self line }
     {
         match self {
             Broken::BadLine => ScriptFault::BadLine { line },

@@ -9,9 +9,10 @@ ghost use Rattle.in_script.specs.Reads.{Gives};
 use crate::bytes::Bytes;
 use crate::fault::Broken;
 use crate::hex::hex_at;
-use crate::number::{is_number, number_at, number_in};
+use crate::number::{number_at, number_in};
 use crate::script::{Entry, Span, What};
 use crate::text::{after, at_space};
+use decimal_text::is_number;
 use memory_map::MOST_STEPS;
 use std::alloc::Global;
 

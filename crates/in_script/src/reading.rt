@@ -3,7 +3,7 @@ ghost use Rattle.std.specs.Prelude.{◌<◌, ◌==◌, length, count_by, IfOk};
 ghost use Rattle.machine_model.specs.Script.{Script as Outside};
 ghost use Rattle.format_model.specs.Script.{IsScript, texts_of};
 ghost use Rattle.format_model.specs.ScriptReading.{nothing, lines_at, script_in};
-ghost use Rattle.in_script.specs.Reads.{Reads};
+ghost use Rattle.in_script.specs.Reads.{GivesFile};
 
 use crate::draft::Draft;
 use crate::fault::ScriptFault;
@@ -14,7 +14,7 @@ use std::alloc::Global;
 // What all lines of a file say.
 fn lines_of(alloc: Global, file: &[u8]) -> Result<Draft, ScriptFault>
     requires { length (texts_of file.now) < 4294967296 }
-    ensures { Reads (λ d. d) result (lines_at nothing 1 (texts_of file.now)) }
+    ensures { GivesFile (λ d. d) result (lines_at nothing 1 (texts_of file.now)) }
 {
     let mut draft = Draft::new(alloc);
     let mut rest = file;
@@ -38,7 +38,7 @@ fn lines_of(alloc: Global, file: &[u8]) -> Result<Draft, ScriptFault>
 #[tactic(auto, unfolding(format_model::specs::ScriptReading::script_in))]
 fn script_in(alloc: Global, file: &[u8]) -> Result<Script, ScriptFault>
     requires { length (texts_of file.now) < 4294967296 }
-    ensures { Reads (λ s. s) result (script_in file.now) }
+    ensures { GivesFile (λ s. s) result (script_in file.now) }
 {
     let draft = lines_of(alloc, file)?;
     Ok(draft.finish())
@@ -51,9 +51,9 @@ pub fn parse(alloc: Global, bytes: &[u8]) -> Result<Script, ScriptFault>
     // What is read is a script of which these are the bytes.
     ensures found { IfOk result (λ s. IsScript bytes.now s) }
     // A script of which these are the bytes is read, unless there is no memory.
-    ensures only { (s : Outside) → IsScript bytes.now s → Reads (λ r. r) result (Ok s) }
+    ensures only { (s : Outside) → IsScript bytes.now s → GivesFile (λ r. r) result (Ok s) }
     // Which fault it is, and of which line.
-    ensures exact { Reads (λ s. s) result (script_in bytes.now) }
+    ensures exact { GivesFile (λ s. s) result (script_in bytes.now) }
 {
     script_in(alloc, bytes)
 }

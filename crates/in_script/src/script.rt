@@ -59,5 +59,9 @@ impl Model for Script {
 
     ghost Value = { Outside };
 
-    ghost view = { λ s. record { clock = s.clock; sectors = s.sectors.items; entries = s.entries.items } };
+    ghost view = { λ s. record {
+      clock = s.clock;
+      sectors = s.sectors.items;
+      entries = s.entries.items;
+    } };
 }

@@ -41,7 +41,8 @@ first_refused guest events steps kind = unwrap_or (first_step (findings kind gue
 -- the least of the first steps that these analyses refuse, and the number of steps where there is none
 abbrev pub least_refused : Guest → List Event → ℕ → List Kind → ℕ
 least_refused guest events steps [] = steps
-least_refused guest events steps (kind ∷ kinds) = min (first_refused guest events steps kind) (least_refused guest events steps kinds)
+least_refused guest events steps (kind ∷ kinds) =
+    min (first_refused guest events steps kind) (least_refused guest events steps kinds)
 
 -- the first step of a job that a required analysis refuses, and the number of steps where none does
 abbrev pub stop : Job → ℕ

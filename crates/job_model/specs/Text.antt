@@ -31,7 +31,8 @@ text job = released_bytes job ++ report job
 
 -- some analysis has a finding
 abbrev pub has_finding : Guest → List Event → List Kind → Bool
-has_finding guest events kinds = list_any (λ kind. is_some (first_step (findings kind guest events))) kinds
+has_finding guest events kinds =
+    list_any (λ kind. is_some (first_step (findings kind guest events))) kinds
 
 -- the status of an end
 abbrev pub status_of : EndCause → Bool → ℕ

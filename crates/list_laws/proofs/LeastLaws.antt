@@ -8,7 +8,7 @@ use Rattle.list_laws.specs.Least.{is_between, least_from, least_between}
 abbrev pub EachFrom : (ℕ → Type 0) → ℕ → ℕ → Type 0
 EachFrom P from count = (n : ℕ) → from ≤ n → n < from + count → P n
 
--- the numbers behind the first
+-- the numbers after the first
 EachFrom-rest : (P : ℕ → Type 0) (from count : ℕ) → EachFrom P from (suc count) → EachFrom P (from + 1) count
 EachFrom-rest P from count all n low high = all n (omega arith) (omega arith)
 

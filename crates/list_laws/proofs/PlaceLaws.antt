@@ -2,7 +2,7 @@
 use Rattle.std.proofs.Common.{◌≡◌, ℕ, zero, suc, ◌<◌, List, [], ◌∷◌, length, drop, Some, slice_get, refl, ap, subst, arith, All}
 use Rattle.std.proofs.lemmas.Option.{get_or_from_slice_get, slice_get_within}
 
--- the first of what is left behind a place stands there
+-- the first of what is left from a place on stands there
 pub dropped-at : {X : Type 0} (k : ℕ) (xs : List X) (x : X) (rest : List X) → drop k xs ≡ x ∷ rest → slice_get xs k ≡ Some x
 dropped-at zero xs x rest is = ap (λ l. slice_get l 0) is
 dropped-at (suc k) [] x rest is = cc

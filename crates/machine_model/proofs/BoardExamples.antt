@@ -70,7 +70,7 @@ line_of_a_byte_alone : board_lines one_byte 7 (reset_board []) ≡ 0
 unfolding one_byte
 line_of_a_byte_alone = refl
 
--- A marked byte behind two plain ones that arrive before it
+-- A marked byte after two plain ones that arrive before it
 
 marked : Script
 marked = record { clock = 100; sectors = []; entries = record { at = 0; what = Serial (1 ∷ 2 ∷ []) 0 } ∷ record { at = 3; what = Tick 9 } ∷ record { at = 3; what = Serial (5 ∷ []) 1 } ∷ [] }

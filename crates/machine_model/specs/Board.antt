@@ -5,6 +5,7 @@ use Rattle.std.specs.Option.{option_and_then, option_map_or}
 use Rattle.std.specs.List.{AllByRecursion, filter_map, flat_map, list_any}
 use Rattle.std.specs.Int.{w32, from_le_bytes}
 use Rattle.memory_map.specs.declared.TheConstants.{RAM_START, MTIMECMP_LOW, MTIMECMP_HIGH, MTIME_LOW, MTIME_HIGH, SERIAL_DATA, SERIAL_STATUS, SERIAL_CTRL, DISK_SECTOR, DISK_ADDR, DISK_CMD, DISK_STATUS, DISK_CTRL, DISK_COUNT, POWER}
+use Rattle.memory_map.specs.Halves.{high_half, low_half, with_high, with_low}
 use Rattle.memory_map.specs.Ram.{InRam, in_ram}
 use Rattle.rv_memory.specs.Ram.{placed}
 use Rattle.run_events.specs.Record.{IsMark}
@@ -51,7 +52,8 @@ registers =
 -- the register at an address, if one is there
 abbrev pub found_at : ℕ → List (ℕ × Register) → Option Register
 found_at address [] = None
-found_at address ((place, register) ∷ others) = if address == place then Some register else found_at address others
+found_at address ((place, register) ∷ others) =
+    if address == place then Some register else found_at address others
 
 abbrev pub register_at : ℕ → Option Register
 register_at address = found_at address registers
@@ -110,7 +112,8 @@ pub record Arrival : Type 0 where
 
 -- the bytes of a script, in order
 abbrev pub arrivals_by : ℕ → What → List Arrival
-arrivals_by at (Serial bytes mark) = map (λ byte. record { at = at; value = byte; mark = mark }) bytes
+arrivals_by at (Serial bytes mark) =
+    map (λ byte. record { at = at; value = byte; mark = mark }) bytes
 arrivals_by at (Tick count) = []
 arrivals_by at (Latency steps) = []
 
@@ -152,19 +155,6 @@ mtime script step b = (elapsed script step + b.offset) % 2 ^ 64
 abbrev pub offset_for : Script → ℕ → ℕ → ℕ
 offset_for script step value = (value + (2 ^ 64 - elapsed script step % 2 ^ 64)) % 2 ^ 64
 
--- the halves of 64 bits, and one of them set with the other kept
-abbrev pub low_half : ℕ → ℕ
-low_half value = value % 2 ^ 32
-
-abbrev pub high_half : ℕ → ℕ
-high_half value = value / 2 ^ 32
-
-abbrev pub with_low : ℕ → ℕ → ℕ
-with_low value half = high_half value * 2 ^ 32 + half
-
-abbrev pub with_high : ℕ → ℕ → ℕ
-with_high value half = half * 2 ^ 32 + low_half value
-
 -- THE DISK
 
 -- the latency in force at a step: that of the last entry due that sets it, and 1000 before one does
@@ -188,11 +178,11 @@ abbrev pub sector_count : List ℕ → ℕ
 sector_count bytes = length bytes / 512
 
 -- the mark of a sector's words
-abbrev pub names : ℕ → Span → Bool
-names sector span = nat_le span.first sector && nat_le sector span.last
+abbrev pub holds_sector : ℕ → Span → Bool
+holds_sector sector span = nat_le span.first sector && nat_le sector span.last
 
 abbrev pub mark_of : Script → ℕ → ℕ
-mark_of script sector = if list_any (names sector) script.sectors then 1 else 0
+mark_of script sector = if list_any (holds_sector sector) script.sectors then 1 else 0
 
 -- so many words of these bytes, for the places from an address on
 unfoldable pub words_of : ℕ → List ℕ → ℕ → ℕ → List DmaWord
@@ -215,7 +205,8 @@ with_sector ram b = placed b.bytes (512 * b.sector) (take 512 (drop (b.address -
 -- are not in RAM
 abbrev pub is_accepted : (ram_size count command sector address : ℕ) → Bool
 is_accepted ram_size count command sector address =
-    (command == 1 || command == 2) && (nat_lt sector count && (address % 4 == 0 && in_ram ram_size address 512))
+    (command == 1 || command == 2)
+    && (nat_lt sector count && (address % 4 == 0 && in_ram ram_size address 512))
 
 -- a command is refused, or begun: it completes when as many steps have passed as the latency in force says
 abbrev pub busy_until : ℕ → List DmaWord → Activity
@@ -229,7 +220,9 @@ begun script step ram command b =
 
 abbrev pub answered : Script → ℕ → List ℕ → ℕ → BoardState → BoardState
 answered script step ram command b =
-    if is_accepted (length ram) (sector_count b.bytes) command b.sector b.address then begun script step ram command b else record b { activity = Refused }
+    if is_accepted (length ram) (sector_count b.bytes) command b.sector b.address
+    then begun script step ram command b
+    else record b { activity = Refused }
 
 -- only a busy disk ignores a command
 abbrev pub is_busy : Activity → Bool
@@ -239,7 +232,8 @@ is_busy Done = false
 is_busy Refused = false
 
 abbrev pub commanded : Script → ℕ → List ℕ → ℕ → BoardState → BoardState
-commanded script step ram command b = if is_busy b.activity then b else answered script step ram command b
+commanded script step ram command b =
+    if is_busy b.activity then b else answered script step ram command b
 
 abbrev pub status_of : Activity → ℕ
 status_of Idle = 0
@@ -259,7 +253,8 @@ acknowledged Refused = Idle
 -- what happens before a step: a command completes, and its words are written to RAM
 abbrev pub completed : ℕ → Activity → List DmaWord × Activity
 completed step Idle = ([], Idle)
-completed step (Busy command) = if nat_le command.before step then (command.words, Done) else ([], Busy command)
+completed step (Busy command) =
+    if nat_le command.before step then (command.words, Done) else ([], Busy command)
 completed step Done = ([], Done)
 completed step Refused = ([], Refused)
 
@@ -274,10 +269,13 @@ abbrev pub timer_line : Script → ℕ → BoardState → Bool
 timer_line script step b = nat_le b.compare (mtime script step b)
 
 abbrev pub external_line : Script → ℕ → BoardState → Bool
-external_line script step b = (waits script step b && b.serial_control == 1) || (nat_le 2 (status_of b.activity) && b.disk_control == 1)
+external_line script step b =
+    (waits script step b && b.serial_control == 1)
+    || (nat_le 2 (status_of b.activity) && b.disk_control == 1)
 
 abbrev pub board_lines : Script → ℕ → BoardState → ℕ
-board_lines script step b = (if timer_line script step b then 1 else 0) + (if external_line script step b then 2 else 0)
+board_lines script step b =
+    (if timer_line script step b then 1 else 0) + (if external_line script step b then 2 else 0)
 
 -- what a load gives: the mark of a serial byte, and 0 for all else
 abbrev pub unmarked : ℕ → Supplied
@@ -304,18 +302,22 @@ given_by script step b DiskCount = unmarked (sector_count b.bytes)
 given_by script step b Power = unmarked 0
 
 abbrev pub given_at : Script → ℕ → BoardState → ℕ → Supplied
-given_at script step b address = option_map_or (given_by script step b) (register_at address) (unmarked 0)
+given_at script step b address =
+    option_map_or (given_by script step b) (register_at address) (unmarked 0)
 
 -- a load of the serial data takes the byte that waits, and no other load changes anything
 abbrev pub after_load : Script → ℕ → BoardState → ℕ → BoardState
-after_load script step b address = if address == SERIAL_DATA && waits script step b then record b { taken = b.taken + 1 } else b
+after_load script step b address =
+    if address == SERIAL_DATA && waits script step b then record b { taken = b.taken + 1 } else b
 
 -- what a store changes
 abbrev pub stored_by : Script → ℕ → List ℕ → ℕ → BoardState → Register → BoardState
 stored_by script step ram value b CompareLow = record b { compare = with_low b.compare value }
 stored_by script step ram value b CompareHigh = record b { compare = with_high b.compare value }
-stored_by script step ram value b TimeLow = record b { offset = offset_for script step (with_low (mtime script step b) value) }
-stored_by script step ram value b TimeHigh = record b { offset = offset_for script step (with_high (mtime script step b) value) }
+stored_by script step ram value b TimeLow =
+    record b { offset = offset_for script step (with_low (mtime script step b) value) }
+stored_by script step ram value b TimeHigh =
+    record b { offset = offset_for script step (with_high (mtime script step b) value) }
 stored_by script step ram value b SerialData = b
 stored_by script step ram value b SerialStatus = b
 stored_by script step ram value b SerialControl = record b { serial_control = value % 2 }
@@ -328,7 +330,8 @@ stored_by script step ram value b DiskCount = b
 stored_by script step ram value b Power = b
 
 abbrev pub after_store : Script → ℕ → List ℕ → BoardState → ℕ → ℕ → BoardState
-after_store script step ram b address value = option_map_or (stored_by script step ram value b) (register_at address) b
+after_store script step ram b address value =
+    option_map_or (stored_by script step ram value b) (register_at address) b
 
 -- WHICH SCRIPTS DRIVE A BOARD
 
@@ -363,6 +366,7 @@ pub record IsDiskWord (size : ℕ) (word : DmaWord) : Type 0 where
 -- the words of a command that is being done
 abbrev pub IsUnderWay : ℕ → Activity → Type 0
 IsUnderWay size Idle = Unit {0}
-IsUnderWay size (Busy command) = (length command.words ≤ 128) × AllByRecursion (IsDiskWord size) command.words
+IsUnderWay size (Busy command) =
+    (length command.words ≤ 128) × AllByRecursion (IsDiskWord size) command.words
 IsUnderWay size Done = Unit {0}
 IsUnderWay size Refused = Unit {0}

@@ -27,7 +27,8 @@ ram_with (segment ∷ segments) ram = ram_with segments (filled ram segment.addr
 -- the bytes that the file gives for each segment stand in a RAM of this many bytes
 abbrev pub IsLoadable : ℕ → List Segment → Type 0
 IsLoadable size [] = Unit {0}
-IsLoadable size (segment ∷ segments) = InRam size segment.address (length segment.bytes) × IsLoadable size segments
+IsLoadable size (segment ∷ segments) =
+    InRam size segment.address (length segment.bytes) × IsLoadable size segments
 
 -- RAM as the guest finds it: zero but for the image
 unfoldable pub ram_at_start : Image → ℕ → List ℕ

@@ -1,11 +1,15 @@
-//! Where RAM and the device registers of the board lie, where instructions begin, how large a machine and how long its
-//! run may be, and the name for no memory.
+//! Where RAM and the device registers of the board lie, where instructions begin, the halves of 64 bits, how large a
+//! machine and how long its run may be, the name for no memory, and what may cross threads.
 #![tactic(auto)]
 
 mod device;
+mod halves;
+mod threads;
 
 pub use device::is_device;
+pub use halves::{high_half, low_half, with_high, with_low};
 use std::alloc::AllocError;
+pub use threads::{CrossesThreads, SharedByThreads};
 
 /// No memory was found: the one answer that no clause ties to a cause.
 pub type NoMemory = AllocError;

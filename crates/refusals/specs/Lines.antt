@@ -43,7 +43,9 @@ unfoldable pub segment_line : ℕ → List ℕ → List ℕ
 segment_line index what = line (codes "image: segment " ++ decimal index ++ what)
 
 unfoldable pub overlap_line : ℕ → ℕ → List ℕ
-overlap_line first second = line (codes "image: segments " ++ decimal first ++ codes " " ++ decimal second ++ codes " overlap")
+overlap_line first second =
+    line (codes "image: segments " ++ decimal first ++ codes " " ++ decimal second
+    ++ codes " overlap")
 
 unfoldable pub image_line : ImageFault → List ℕ
 image_line (image.Short need) = line (codes "image: short need " ++ decimal need)

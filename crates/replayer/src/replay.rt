@@ -1,7 +1,7 @@
 //! The replay of a guest, fed record by record.
 use crate::Diverged;
 use elf_image::Image;
-use memory_map::NoMemory;
+use memory_map::{CrossesThreads, NoMemory};
 use run_events::{Record, Watcher};
 use rv_cpu::Cpu;
 use rv_memory::Ram;
@@ -12,6 +12,8 @@ use std::alloc::Global;
 pub struct Replay {
     fed: any_replay::Replay<Cpu>,
 }
+
+impl CrossesThreads for Replay {}
 
 impl Replay {
     ghost use Rattle.memory_map.specs.declared.TheConstants.{LEAST_RAM_KIB, MOST_RAM_KIB};
@@ -57,9 +59,11 @@ impl Replay {
         ensures answer { result ≡ answer_of (fault_of self.new) }
         ensures replays { (start : State) (before : List Item) → Replays start before self.old
             → Replays start (item.now ∷ before) self.new }
-        ensures shown { (start : State) (before : List Item) (h : List Shown) → Replays start before self.old
+        ensures shown { (start : State) (before : List Item) (h : List Shown)
+            → Replays start before self.old
             → W.has_seen seen.old (h ++ shown_by hart start (outcome hart start before))
-            → W.has_seen seen.new (h ++ shown_by hart start (outcome hart start (item.now ∷ before))) }
+            → W.has_seen seen.new
+            (h ++ shown_by hart start (outcome hart start (item.now ∷ before))) }
         ensures diverged { IsTrue (is_some (fault_of self.old)) → self.new ≡ self.old }
         ensures still { IsTrue (is_some (fault_of self.old)) → seen.new ≡ seen.old }
         ensures takes { takes_of self.new ≡ takes_after (takes_of self.old) (fault_of self.new) }
@@ -94,11 +98,4 @@ impl Replay {
     {
         self.fed.takes()
     }
-}
-
-// A replay may be handed to another thread.
-fn crosses_threads<T: Send>(_value: &T) {}
-
-fn replay_crosses_threads(replay: &Replay) {
-    crosses_threads(replay);
 }

@@ -13,19 +13,16 @@ step_of (Irq step pc cause next) = step
 step_of (Trap step pc word cause value next) = step
 step_of (Exec step pc word next result access told) = step
 
--- the low byte that an access stores at this address, if it stores there
+-- the low byte of a store that begins at this address
 abbrev pub byte_stored_at : ℕ → Access → Option ℕ
-byte_stored_at place Quiet = None
-byte_stored_at place (Load address width value device mark) = None
-byte_stored_at place (Store address width value device) = if address == place then Some (value % 256) else None
-byte_stored_at place (Swap address old new) = None
+byte_stored_at place (Store address width value device) =
+    if address == place then Some (value % 256) else None
+byte_stored_at place _ = None
 
--- and that an event stores there
+-- and of an event's store that begins there
 abbrev pub byte_stored : ℕ → Event → Option ℕ
-byte_stored place (Dma step address word mark) = None
-byte_stored place (Irq step pc cause next) = None
-byte_stored place (Trap step pc word cause value next) = None
 byte_stored place (Exec step pc word next result access told) = byte_stored_at place access
+byte_stored place _ = None
 
 -- the word at this address stands in a RAM of this many KiB
 pub record IsWordInRam (ram_kib address : ℕ) : Type 0 where

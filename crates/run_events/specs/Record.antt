@@ -45,7 +45,8 @@ is_end record' = rank record' == 4
 -- how many words of the disk have this number
 abbrev pub dmas_at : ℕ → List Record → ℕ
 dmas_at step [] = 0
-dmas_at step (item ∷ items) = if is_dma item && number item == step then dmas_at step items + 1 else dmas_at step items
+dmas_at step (item ∷ items) =
+    if is_dma item && number item == step then dmas_at step items + 1 else dmas_at step items
 
 -- A record may stand after these, of which the last is given first: nothing stands after an end; the number does not
 -- fall; among records of one number the rank rises, but for at most 128 words of the disk.
@@ -54,7 +55,8 @@ is_admitted [] item = true
 is_admitted (last ∷ before) item =
     not (is_end last)
     && (nat_lt (number last) (number item)
-    || (number last == number item && (nat_lt (rank last) (rank item) || (is_dma last && (is_dma item && nat_lt (dmas_at (number item) (last ∷ before)) 128)))))
+    || (number last == number item && (nat_lt (rank last) (rank item)
+    || (is_dma last && (is_dma item && nat_lt (dmas_at (number item) (last ∷ before)) 128)))))
 
 -- each record, read from the last one back, is admitted after those before it
 abbrev pub is_ordered_back : List Record → Bool
@@ -92,10 +94,12 @@ reach items = reach_back (reverse items)
 -- whether a record may follow the last one, of which so many words of the disk have the number
 abbrev pub TellsFollow : Record → ℕ → Record → Bool → Type 0
 TellsFollow last words item told =
-    (before : List Record) → words ≡ newest_dmas (last ∷ before) → told ≡ is_admitted (last ∷ before) item
+    (before : List Record) → words ≡ newest_dmas (last ∷ before)
+    → told ≡ is_admitted (last ∷ before) item
 
 -- how many words of the disk have the number of a record that is admitted after the last one, with it
 abbrev pub CountsDmas : Option Record → ℕ → Record → ℕ → Type 0
 CountsDmas last words item count =
-    (before : List Record) → is_ordered_back before ≡ true → last ≡ newest before → words ≡ newest_dmas before → is_admitted before item ≡ true
+    (before : List Record) → is_ordered_back before ≡ true → last ≡ newest before
+    → words ≡ newest_dmas before → is_admitted before item ≡ true
     → count ≡ newest_dmas (item ∷ before)

@@ -70,4 +70,5 @@ record_in step kind' mark second =
     else None
 
 abbrev pub record_in_words : ℕ → ℕ → Option Record
-record_in_words first second = record_in (first % 2 ^ 32) (first / 2 ^ 32 % 256) (first / 2 ^ 40 % 256) second
+record_in_words first second =
+    record_in (first % 2 ^ 32) (first / 2 ^ 32 % 256) (first / 2 ^ 40 % 256) second

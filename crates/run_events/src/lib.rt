@@ -10,7 +10,6 @@ mod item;
 mod numbers;
 mod record;
 mod sequence;
-mod shared;
 mod supply;
 mod watcher;
 mod words;

@@ -1,4 +1,5 @@
 //! Records, and why a run ended.
+use memory_map::SharedByThreads;
 
 /// Why a run ended.
 #[derive(Clone, Copy, Debug, PartialEq, Eq)]
@@ -41,3 +42,5 @@ pub enum Record {
         cause: EndCause,
     },
 }
+
+impl SharedByThreads for Record {}

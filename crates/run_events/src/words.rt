@@ -1,11 +1,12 @@
 //! The two words of a record.
-ghost use Rattle.std.specs.Prelude.{◌≡◌, ◌/◌, ◌%◌, ◌^◌, IfSome};
+ghost use Rattle.std.specs.Prelude.{◌≡◌, IfSome};
 ghost use Rattle.run_events.specs.declared.record.Record.{Record};
 ghost use Rattle.run_events.specs.Record.{IsRecord};
 ghost use Rattle.run_events.specs.Words as spec;
 
 use crate::numbers::{is_record, number};
 use crate::{EndCause, Record};
+use memory_map::{high_half, low_half};
 
 // The number of the kind of a record.
 fn kind(r: &Record) -> u64
@@ -61,20 +62,6 @@ pub fn to_words(r: &Record) -> (u64, u64)
         + 0x1_0000_0000 * kind(r)
         + 0x100_0000_0000 * u64::from(mark(r));
     (first, second_word(r))
-}
-
-// The lower half of a word.
-fn low_half(word: u64) -> u32
-    ensures { result ≡ word % 2 ^ 32 }
-{
-    (word % 0x1_0000_0000) as u32
-}
-
-// The upper half of a word.
-fn high_half(word: u64) -> u32
-    ensures { result ≡ word / 2 ^ 32 }
-{
-    (word / 0x1_0000_0000) as u32
 }
 
 fn cause_in(second: u64) -> EndCause

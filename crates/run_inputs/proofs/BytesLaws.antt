@@ -1,17 +1,15 @@
 -- What the reads of a run's files say together.
-use Rattle.std.proofs.Common.{◌≡◌, ℕ, ◌<◌, ◌≤◌, inl, inr, List, [], length, Option, Some, None, Result, Ok, Err, refl, sym, subst, arith, cond, ltb}
-use Rattle.std.specs.Prelude.{IsSome}
+use Rattle.std.proofs.Common.{◌≡◌, ℕ, ◌<◌, ◌≤◌, inl, inr, List, length, Option, Some, None, Result, Ok, Err, refl, sym, subst}
 use Rattle.std.proofs.lemmas.Bool.{cases_lt, lt-ltb, le-ltb}
-use Rattle.after_edge.specs.Fault.{Rose}
-use Rattle.format_model.specs.ScriptReading.{◌>>=◌}
+use Rattle.format_model.specs.Then.{◌>>=◌}
 use Rattle.after_edge.specs.Files.{Contents}
 use Rattle.after_edge.proofs.FaultLaws.{Rose-later}
 use Rattle.run_inputs.specs.declared.fault.InputFault.{InputFault}
 use Rattle.run_inputs.specs.declared.fault.InputFault.TheVariants as fault
 use Rattle.run_inputs.specs.Faults.{HasCause}
 use Rattle.run_inputs.specs.Files.{Names, IsFound, IsDiskFound, Comes}
-use Rattle.run_inputs.specs.Given.{Bytes, Refusal, Absent, ImageTooLong, ScriptTooLong, DiskTooLong, image_max, script_max, disk_max, file_in, bytes_in}
-use Rattle.run_inputs.specs.Read.{HasFailed, IsLong, IsRefused, IsDiskRefused}
+use Rattle.run_inputs.specs.Given.{Bytes, Refusal, ImageTooLong, ScriptTooLong, DiskTooLong, image_max, script_max, disk_max, file_in, bytes_in}
+use Rattle.run_inputs.specs.Read.{HasFailedFile, IsLong, IsFileRefused, IsDiskRefused}
 use Rattle.run_inputs.proofs.FoundLaws.{some_found, some_disk}
 
 -- a file that is not too long, and one that is
@@ -28,7 +26,7 @@ pub record IsRead (content : Option Contents) (name : List ℕ) (max : ℕ) (byt
 
 module _ (content : Option Contents) (names : Names) where
   -- the image's fault
-  image_failed : (before now : ℕ) → HasFailed content names.image before now → HasCause bytes_in content names before now fault.Files
+  image_failed : (before now : ℕ) → HasFailedFile content names.image before now → HasCause bytes_in content names before now fault.Files
   unfolding bytes_in
   image_failed before now (inl rose) = inl rose
   image_failed before now (inr (told, none)) =
@@ -47,14 +45,14 @@ module _ (content : Option Contents) (names : Names) where
         gives = rw (long image_max ImageTooLong longer.bytes longer.longer) refl;
       }
 
-  pub image_refused : (before now : ℕ) (told : InputFault) → IsRefused content names.image image_max fault.ImageTooLong before now told → HasCause bytes_in content names before now told
+  pub image_refused : (before now : ℕ) (told : InputFault) → IsFileRefused content names.image image_max fault.ImageTooLong before now told → HasCause bytes_in content names before now told
   image_refused before now told (inl (is, failed)) = subst (HasCause bytes_in content names before now) (sym is) (image_failed before now failed)
   image_refused before now told (inr (inl (is, longer))) = subst (HasCause bytes_in content names before now) (sym is) (image_long longer)
   image_refused before now told (inr (inr is)) = subst (HasCause bytes_in content names before now) (sym is) tt
 
   module _ (image : List ℕ) (image_read : IsRead content names.image image_max image) where
     -- the script's fault, after the image was read
-    script_failed : (before now : ℕ) → HasFailed content names.script before now → HasCause bytes_in content names before now fault.Files
+    script_failed : (before now : ℕ) → HasFailedFile content names.script before now → HasCause bytes_in content names before now fault.Files
     unfolding bytes_in
     script_failed before now (inl rose) = inl rose
     script_failed before now (inr (told, none)) =
@@ -78,14 +76,14 @@ module _ (content : Option Contents) (names : Names) where
           gives = rw (whole image_max ImageTooLong image image_read.within, long script_max ScriptTooLong longer.bytes longer.longer) refl;
         }
 
-    pub script_refused : (before now : ℕ) (told : InputFault) → IsRefused content names.script script_max fault.ScriptTooLong before now told → HasCause bytes_in content names before now told
+    pub script_refused : (before now : ℕ) (told : InputFault) → IsFileRefused content names.script script_max fault.ScriptTooLong before now told → HasCause bytes_in content names before now told
     script_refused before now told (inl (is, failed)) = subst (HasCause bytes_in content names before now) (sym is) (script_failed before now failed)
     script_refused before now told (inr (inl (is, longer))) = subst (HasCause bytes_in content names before now) (sym is) (script_long longer)
     script_refused before now told (inr (inr is)) = subst (HasCause bytes_in content names before now) (sym is) tt
 
     module _ (script : List ℕ) (script_read : IsRead content names.script script_max script) where
       -- the disk's fault, after both were read
-      disk_failed : (name : List ℕ) (before now : ℕ) → names.disk ≡ Some name → HasFailed content name before now → HasCause bytes_in content names before now fault.Files
+      disk_failed : (name : List ℕ) (before now : ℕ) → names.disk ≡ Some name → HasFailedFile content name before now → HasCause bytes_in content names before now fault.Files
       unfolding bytes_in
       disk_failed name before now is (inl rose) = inl rose
       disk_failed name before now is (inr (told, none)) =

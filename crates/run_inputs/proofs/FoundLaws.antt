@@ -1,5 +1,5 @@
 -- What stands under a name, as far as the files tell.
-use Rattle.std.proofs.Common.{◌≡◌, ℕ, ◌+◌, ◌<◌, List, length, [], Option, Some, None, refl, sym, ap, arith, ◌∙◌}
+use Rattle.std.proofs.Common.{◌≡◌, ℕ, ◌+◌, List, [], Option, Some, None, refl, sym, ap, arith, ◌∙◌}
 use Rattle.std.specs.Prelude.{IsSome, replicate}
 use Rattle.std.proofs.lemmas.List.{length-replicate}
 use Rattle.std.proofs.lemmas.Option.{none-some, same_Some}

@@ -1,6 +1,5 @@
 -- What is judged, and what the judge's faults say of the whole.
-use Rattle.std.proofs.Common.{◌≡◌, ℕ, ◌*◌, ◌<◌, ◌≤◌, List, length, Option, Some, None, Result, Ok, Err, IfOk, IfErr, inl, inr, refl, sym, ap, subst, arith, cond, ltb}
-use Rattle.std.proofs.lemmas.Option.{none-some}
+use Rattle.std.proofs.Common.{◌≡◌, ℕ, ◌≤◌, length, Option, Result, Ok, Err, IfOk, IfErr, inl, inr, refl, ap, arith}
 use Rattle.after_edge.specs.Files.{Contents}
 use Rattle.elf_image.specs.declared.fault.ImageFault.{ImageFault}
 use Rattle.elf_image.specs.declared.fault.ImageFault.TheVariants as image
@@ -11,13 +10,12 @@ use Rattle.in_script.specs.Reads as lines
 use Rattle.format_model.specs.ImageFile as image_model
 use Rattle.format_model.specs.ScriptReading as script_model
 use Rattle.machine_model.specs.Image.{Image}
-use Rattle.machine_model.specs.Script.{Script}
 use Rattle.run_inputs.specs.declared.inputs.Inputs.{Inputs}
 use Rattle.run_inputs.specs.declared.fault.InputFault.{InputFault}
 use Rattle.run_inputs.specs.declared.fault.InputFault.TheVariants as fault
 use Rattle.run_inputs.specs.Faults.{HasCause, of_image, of_script}
 use Rattle.run_inputs.specs.Files.{Names, Comes}
-use Rattle.run_inputs.specs.Given.{Bytes, Found, Given, Refusal, BadImage, BadScript, bytes_in, disk_max, given_in, inputs_in}
+use Rattle.run_inputs.specs.Given.{Bytes, Given, Refusal, BadImage, BadScript, bytes_in, disk_max, given_in, inputs_in}
 use Rattle.run_inputs.specs.Read.{IsJudgedAs, given_by}
 use Rattle.run_inputs.proofs.BytesLaws.{AreShort}
 

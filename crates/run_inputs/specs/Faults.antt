@@ -1,5 +1,5 @@
 -- The faults of a run's files, and the cause of each.
-use Rattle.std.specs.Prelude.{◌≡◌, ◌⊎◌, ℕ, ◌≤◌, Option, Some, None, IsSome, Result, Ok, Err}
+use Rattle.std.specs.Prelude.{◌≡◌, ◌⊎◌, ℕ, Option, Some, None, IsSome, Result, Err}
 use Rattle.after_edge.specs.Fault.{Rose}
 use Rattle.after_edge.specs.Files.{Contents}
 use Rattle.elf_image.specs.declared.fault.ImageFault.{ImageFault}
@@ -13,7 +13,7 @@ use Rattle.run_inputs.specs.declared.fault.InputFault.TheVariants as fault
 use Rattle.run_inputs.specs.Files.{Names, Comes}
 use Rattle.run_inputs.specs.Given.{Found, Refusal, Absent, ImageTooLong, ScriptTooLong, DiskTooLong, BadImage, BadScript}
 
--- the fault of an image that a fault tells, but for want of memory
+-- the fault of an image that a fault tells, unless there was no memory
 abbrev pub image_fault : ImageFault → Option image_model.Fault
 image_fault (image.Short need) = Some (image_model.Short need)
 image_fault (image.NotThis field) = Some (image_model.NotThis field)
@@ -52,12 +52,20 @@ of_script (script.TooMany line) = fault.Script (script.TooMany line)
 of_script script.NoMemory = fault.NoMemory
 
 -- When each fault comes, from a reader of the files: an absent file or a failure where the count rose or the files tell
--- that one is absent; each other where the definition gives it; want of memory has no cause.
-abbrev pub HasCause : {Y : Type 0} → (Found → Result Y Refusal) → Option Contents → Names → (before now : ℕ) → InputFault → Type 0
-HasCause read content names before now fault.Files = Rose before now ⊎ (IsSome content × Comes read content names (Err Absent))
-HasCause read content names before now fault.ImageTooLong = Comes read content names (Err ImageTooLong)
-HasCause read content names before now fault.ScriptTooLong = Comes read content names (Err ScriptTooLong)
-HasCause read content names before now fault.DiskTooLong = Comes read content names (Err DiskTooLong)
-HasCause read content names before now (fault.Image e) = (k : image_model.Fault) × (image_fault e ≡ Some k) × Comes read content names (Err (BadImage k))
-HasCause read content names before now (fault.Script e) = (k : ℕ × script_model.Broken) × (script_fault e ≡ Some k) × Comes read content names (Err (BadScript k))
+-- that one is absent; each other where the definition gives it; no memory has no cause.
+abbrev pub HasCause : {Y : Type 0} → (Found → Result Y Refusal) → Option Contents → Names
+    → (before now : ℕ) → InputFault → Type 0
+HasCause read content names before now fault.Files =
+    Rose before now ⊎ (IsSome content × Comes read content names (Err Absent))
+HasCause read content names before now fault.ImageTooLong =
+    Comes read content names (Err ImageTooLong)
+HasCause read content names before now fault.ScriptTooLong =
+    Comes read content names (Err ScriptTooLong)
+HasCause read content names before now fault.DiskTooLong =
+    Comes read content names (Err DiskTooLong)
+HasCause read content names before now (fault.Image e) =
+    (k : image_model.Fault) × (image_fault e ≡ Some k) × Comes read content names (Err (BadImage k))
+HasCause read content names before now (fault.Script e) =
+    (k : ℕ × script_model.Broken) × (script_fault e ≡ Some k)
+    × Comes read content names (Err (BadScript k))
 HasCause read content names before now fault.NoMemory = Unit {0}

@@ -1,6 +1,5 @@
 -- The files that a run names, as far as the outside tells what they are.
-use Rattle.std.specs.Prelude.{◌≡◌, ◌⊎◌, ℕ, List, [], Option, Some, None, IsSome, Result, Ok, Err}
-use Rattle.after_edge.specs.Fault.{Rose}
+use Rattle.std.specs.Prelude.{◌≡◌, ℕ, List, [], Option, Some, None, Result}
 use Rattle.after_edge.specs.Files.{Contents, IfTold}
 use Rattle.run_inputs.specs.Given.{Found, Refusal}
 
@@ -26,7 +25,8 @@ pub record AreFound (content : Option Contents) (names : Names) (found : Found) 
   pub disk : IsDiskFound content names.disk found.disk
 
 -- what a reader gives for the files of a run, as far as they tell what they are
-pub record Comes {Y : Type 0} (read : Found → Result Y Refusal) (content : Option Contents) (names : Names) (answer : Result Y Refusal) : Type 0 where
+pub record Comes {Y : Type 0} (read : Found → Result Y Refusal) (content : Option Contents)
+    (names : Names) (answer : Result Y Refusal) : Type 0 where
   pub found : Found
   pub are : AreFound content names found
   pub gives : read found ≡ answer

@@ -3,7 +3,8 @@ use Rattle.std.specs.Prelude.{ℕ, nat_lt, if◌then◌else◌, List, length, Op
 use Rattle.machine_model.specs.Image.{Image}
 use Rattle.machine_model.specs.Script.{Script}
 use Rattle.format_model.specs.ImageFile.{Fault, image_in}
-use Rattle.format_model.specs.ScriptReading.{Broken, script_in, ◌>>=◌}
+use Rattle.format_model.specs.ScriptReading.{Broken, script_in}
+use Rattle.format_model.specs.Then.{◌>>=◌}
 
 -- what stands under the names of a run's files; None where there is no file
 pub record Found : Type 0 where

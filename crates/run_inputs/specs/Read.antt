@@ -1,5 +1,5 @@
 -- What the readers of a run's files answer.
-use Rattle.std.specs.Prelude.{◌≡◌, ◌⊎◌, ℕ, ◌<◌, ◌≤◌, List, length, Option, Some, None, IsSome, Result, Ok, Err}
+use Rattle.std.specs.Prelude.{◌≡◌, ◌⊎◌, ℕ, ◌<◌, List, length, Option, Some, None, IsSome, Result, Ok, Err}
 use Rattle.after_edge.specs.Fault.{Rose}
 use Rattle.after_edge.specs.Files.{Contents}
 use Rattle.format_model.specs.ImageFile as image_model
@@ -17,7 +17,11 @@ abbrev pub given_by : Inputs → Given
 given_by inputs = record { image = inputs.image; script = inputs.script; disk = inputs.disk.items }
 
 abbrev pub bytes_of : FileBytes → Bytes
-bytes_of bytes = record { image = bytes.image.items; script = bytes.script.items; disk = bytes.disk.items }
+bytes_of bytes = record {
+  image = bytes.image.items;
+  script = bytes.script.items;
+  disk = bytes.disk.items;
+}
 
 -- as far as the files tell, there are more bytes under the name
 pub record IsLong (content : Option Contents) (name : List ℕ) (max : ℕ) : Type 0 where
@@ -26,26 +30,31 @@ pub record IsLong (content : Option Contents) (name : List ℕ) (max : ℕ) : Ty
   pub longer : max < length bytes
 
 -- there is no file of the name, or the files failed
-abbrev pub HasFailed : Option Contents → List ℕ → (before now : ℕ) → Type 0
-HasFailed content name before now = Rose before now ⊎ (IsSome content × IsFound content name None)
+abbrev pub HasFailedFile : Option Contents → List ℕ → (before now : ℕ) → Type 0
+HasFailedFile content name before now =
+    Rose before now ⊎ (IsSome content × IsFound content name None)
 
 -- why one file is not read: it failed, it is too long, which is told as this fault, or there was no memory
-abbrev pub IsRefused : Option Contents → List ℕ → (max : ℕ) → InputFault → (before now : ℕ) → InputFault → Type 0
-IsRefused content name max too_long before now told =
-    ((told ≡ fault.Files) × HasFailed content name before now) ⊎ ((told ≡ too_long) × IsLong content name max) ⊎ (told ≡ fault.NoMemory)
+abbrev pub IsFileRefused : Option Contents → List ℕ → (max : ℕ) → InputFault → (before now : ℕ)
+    → InputFault → Type 0
+IsFileRefused content name max too_long before now told =
+    ((told ≡ fault.Files) × HasFailedFile content name before now)
+    ⊎ ((told ≡ too_long) × IsLong content name max)
+    ⊎ (told ≡ fault.NoMemory)
 
 -- a disk that is not named is read without a fault
-abbrev pub IsDiskRefused : Option Contents → Option (List ℕ) → (before now : ℕ) → InputFault → Type 0
+abbrev pub IsDiskRefused : Option Contents → Option (List ℕ) → (before now : ℕ) → InputFault
+    → Type 0
 IsDiskRefused content None before now told = ⊥
-IsDiskRefused content (Some name) before now told = IsRefused content name disk_max fault.DiskTooLong before now told
+IsDiskRefused content (Some name) before now told =
+    IsFileRefused content name disk_max fault.DiskTooLong before now told
 
 -- what is judged is what the definition gives, unless there was no memory
 abbrev pub IsJudgedAs : Result Given Refusal → Result Inputs InputFault → Type 0
 IsJudgedAs judged (Ok inputs) = judged ≡ Ok (given_by inputs)
-IsJudgedAs judged (Err (fault.Image e)) = (k : image_model.Fault) × (image_fault e ≡ Some k) × (judged ≡ Err (BadImage k))
-IsJudgedAs judged (Err (fault.Script e)) = (k : ℕ × script_model.Broken) × (script_fault e ≡ Some k) × (judged ≡ Err (BadScript k))
+IsJudgedAs judged (Err (fault.Image e)) =
+    (k : image_model.Fault) × (image_fault e ≡ Some k) × (judged ≡ Err (BadImage k))
+IsJudgedAs judged (Err (fault.Script e)) =
+    (k : ℕ × script_model.Broken) × (script_fault e ≡ Some k) × (judged ≡ Err (BadScript k))
 IsJudgedAs judged (Err fault.NoMemory) = Unit {0}
-IsJudgedAs judged (Err fault.Files) = ⊥
-IsJudgedAs judged (Err fault.ImageTooLong) = ⊥
-IsJudgedAs judged (Err fault.ScriptTooLong) = ⊥
-IsJudgedAs judged (Err fault.DiskTooLong) = ⊥
+IsJudgedAs judged _ = ⊥

@@ -16,9 +16,9 @@ pub enum InputFault {
     ScriptTooLong,
     /// The disk's file is longer than its limit.
     DiskTooLong,
-    /// The image's file gives no image. It is never for want of memory.
+    /// The image's file gives no image. It is never `NoMemory`.
     Image(ImageFault),
-    /// The script's file is no script. It is never for want of memory.
+    /// The script's file is no script. It is never `NoMemory`.
     Script(ScriptFault),
     /// There was no memory. No clause ties it to a cause.
     NoMemory,

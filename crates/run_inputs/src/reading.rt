@@ -3,7 +3,7 @@ ghost use Rattle.std.specs.Prelude.{◌≡◌, ◌≤◌, Ok, Some, OnOk, IfOk, 
 ghost use Rattle.run_inputs.specs.Faults.{HasCause};
 ghost use Rattle.run_inputs.specs.Files.{Comes, IsDiskFound, IsFound};
 ghost use Rattle.run_inputs.specs.Given.{bytes_in, disk_max};
-ghost use Rattle.run_inputs.specs.Read.{IsDiskRefused, IsRefused, bytes_of};
+ghost use Rattle.run_inputs.specs.Read.{IsDiskRefused, IsFileRefused, bytes_of};
 
 use crate::InputFault;
 use after_edge::{FileFault, Files, read_all};
@@ -34,11 +34,13 @@ fn read_file<F: Files>(
     max: usize,
     too_long: InputFault,
 ) -> Result<Vec<u8>, InputFault>
-    ensures read { IfOk result (λ bytes. IsFound (F.content files.old) name.now (Some bytes.items)) }
+    ensures read { IfOk result
+        (λ bytes. IsFound (F.content files.old) name.now (Some bytes.items)) }
     ensures within { IfOk result (λ bytes. length bytes.items ≤ max) }
     ensures kept { OnOk result (F.faults files.old ≤ F.faults files.new) }
     ensures refused { IfErr result
-        (IsRefused (F.content files.old) name.now max too_long (F.faults files.old) (F.faults files.new)) }
+        (IsFileRefused (F.content files.old) name.now max too_long (F.faults files.old)
+        (F.faults files.new)) }
     ensures same { F.content files.new ≡ F.content files.old }
 {
     match read_all(alloc, files, name, max) {

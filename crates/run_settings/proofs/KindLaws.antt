@@ -65,7 +65,7 @@ most_kinds kinds once =
     let few = length-le_from_distinct_below (map kind_number kinds) 5 (distinct kinds once) (all_below kinds) in
     rw length-map at few
 
--- a kind that is not there can be put behind the others
+-- a kind that is not there can be put after the others
 pub once_more : (kinds : List Kind) (kind : Kind) → EachOnce kinds → (¬ Contains kinds kind) → EachOnce (kinds ++ kind ∷ [])
 once_more [] kind once absent = (absent, tt)
 once_more (first ∷ kinds) kind once absent =

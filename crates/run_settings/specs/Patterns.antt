@@ -45,7 +45,9 @@ has_reads zero turns = true
 has_reads (suc reader) turns = has_reads reader turns && list_any (is_read reader) turns
 
 unfoldable pub is_pattern : ℕ → List Letter → Bool
-is_pattern readers turns = list_all (is_letter readers) turns && list_any is_record turns && has_reads readers turns && list_any is_release turns
+is_pattern readers turns =
+    list_all (is_letter readers) turns && list_any is_record turns && has_reads readers turns
+    && list_any is_release turns
 
 -- a turn of each follower in order
 unfoldable pub reads_below : ℕ → List Letter

@@ -41,7 +41,7 @@ impl Kinds {
         }
     }
 
-    /// Puts a kind behind the others. There is room for each kind that is not among them.
+    /// Puts a kind after the others. There is room for each kind that is not among them.
     pub fn add(&mut self, kind: Kind)
         requires { ¬ Contains self.old kind }
         ensures { self.new ≡ self.old ++ kind ∷ [] }

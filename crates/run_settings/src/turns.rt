@@ -132,7 +132,7 @@ impl Turns {
         turns
     }
 
-    /// Puts a turn behind the others.
+    /// Puts a turn after the others.
     pub fn add(&mut self, letter: Letter)
         requires { length self.old < 64 }
         ensures { self.new ≡ self.old ++ letter ∷ [] }

@@ -1,6 +1,7 @@
 -- The registers by their addresses: what each reads, and what a write keeps. (Privileged manual, 2.2 and 3.1.)
 use Rattle.std.specs.Prelude.{ℕ, ◌+◌, ◌-◌, ◌*◌, ◌/◌, ◌%◌, ◌^◌, Bool, true, ◌&&◌, ◌==◌, nat_le, List, [], ◌∷◌, ◌++◌, Option, None, Some, if◌then◌else◌}
 use Rattle.memory_map.specs.declared.TheConstants.{GRAIN}
+use Rattle.memory_map.specs.Halves.{high_half, low_half, with_high, with_low}
 use Rattle.rv_csr.specs.declared.csrs.Csrs.{Csrs}
 
 -- a bit of a word, and a flag in its place
@@ -13,19 +14,6 @@ bit_if bit flag = if flag then 2 ^ bit else 0
 -- the multiple of this size at or below a word
 abbrev pub down_to : ℕ → ℕ → ℕ
 down_to size word = word - word % size
-
--- the halves of a counter, and the counter with one of them replaced
-abbrev pub low : ℕ → ℕ
-low counter = counter % 2 ^ 32
-
-abbrev pub high : ℕ → ℕ
-high counter = counter / 2 ^ 32
-
-abbrev pub with_low : ℕ → ℕ → ℕ
-with_low counter value = high counter * 2 ^ 32 + value
-
-abbrev pub with_high : ℕ → ℕ → ℕ
-with_high counter value = value * 2 ^ 32 + low counter
 
 -- one address, or all from the first to the last one
 pub data Place : Type 0 where
@@ -99,10 +87,10 @@ with_minstret c counter = record c { minstret = counter; minstret_written = true
 -- the counters of steps and of retired instructions, in halves
 abbrev pub counter_rows : List Row
 counter_rows =
-    row 0xb00 (λ c lines. low c.mcycle) (λ c value. with_mcycle c (with_low c.mcycle value))
-    ∷ row 0xb02 (λ c lines. low c.minstret) (λ c value. with_minstret c (with_low c.minstret value))
-    ∷ row 0xb80 (λ c lines. high c.mcycle) (λ c value. with_mcycle c (with_high c.mcycle value))
-    ∷ row 0xb82 (λ c lines. high c.minstret) (λ c value. with_minstret c (with_high c.minstret value))
+    row 0xb00 (λ c lines. low_half c.mcycle) (λ c value. with_mcycle c (with_low c.mcycle value))
+    ∷ row 0xb02 (λ c lines. low_half c.minstret) (λ c value. with_minstret c (with_low c.minstret value))
+    ∷ row 0xb80 (λ c lines. high_half c.mcycle) (λ c value. with_mcycle c (with_high c.mcycle value))
+    ∷ row 0xb82 (λ c lines. high_half c.minstret) (λ c value. with_minstret c (with_high c.minstret value))
     ∷ []
 
 -- the counters of performance and what chooses their events: mcountinhibit, mhpmevent3 to 31, mhpmcounter3 to 31 and

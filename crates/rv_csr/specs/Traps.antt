@@ -5,7 +5,13 @@ use Rattle.rv_csr.specs.Table.{has_bit, down_to, timer_line, external_line}
 
 -- trap entry: interrupts go off and their flag is kept, and so are the pc, the cause and its value
 abbrev pub entered : Csrs → (cause pc value : ℕ) → Csrs
-entered c cause pc value = record c { interrupts = false; interrupts_before = c.interrupts; mepc = pc; mcause = cause; mtval = value }
+entered c cause pc value = record c {
+  interrupts = false;
+  interrupts_before = c.interrupts;
+  mepc = pc;
+  mcause = cause;
+  mtval = value;
+}
 
 -- the causes with bit 31 are interrupts
 abbrev pub is_interrupt : ℕ → Bool
@@ -14,7 +20,10 @@ is_interrupt cause = has_bit 31 cause
 -- where a trap goes: to the base, mtvec without its low two bits; and where the low bit is 1, an interrupt by as many
 -- words past it as its number says
 abbrev pub vector : Csrs → ℕ → ℕ
-vector c cause = if has_bit 0 c.mtvec && is_interrupt cause then (down_to 4 c.mtvec + 4 * (cause % 2 ^ 31)) % 2 ^ 32 else down_to 4 c.mtvec
+vector c cause =
+    if has_bit 0 c.mtvec && is_interrupt cause
+    then (down_to 4 c.mtvec + 4 * (cause % 2 ^ 31)) % 2 ^ 32
+    else down_to 4 c.mtvec
 
 -- MRET: interrupts are as before the trap. The pc is then mepc.
 abbrev pub left : Csrs → Csrs

@@ -7,9 +7,8 @@ use crate::addresses::{
     MHPMCOUNTER31, MHPMCOUNTER31H, MHPMEVENT3, MHPMEVENT31, MIE, MINSTRET, MINSTRETH, MIP, MISA,
     MSCRATCH, MSTATUS, MSTATUSH, MTVAL, MTVEC, MVENDORID, PMPADDR0, PMPADDR63, PMPCFG0, PMPCFG15,
 };
-use crate::counters::{high, low, with_high, with_low};
 use crate::csrs::Csrs;
-use memory_map::GRAIN;
+use memory_map::{GRAIN, high_half, low_half, with_high, with_low};
 
 // A bit of a word.
 fn has_bit(bit: u32, word: u32) -> bool
@@ -79,10 +78,10 @@ impl Csrs {
             MCAUSE => self.mcause,
             MTVAL => self.mtval,
             MIP => bit_if(11, lines / 2 % 2 == 1) + bit_if(7, lines % 2 == 1),
-            MCYCLE => low(self.mcycle),
-            MINSTRET => low(self.minstret),
-            MCYCLEH => high(self.mcycle),
-            MINSTRETH => high(self.minstret),
+            MCYCLE => low_half(self.mcycle),
+            MINSTRET => low_half(self.minstret),
+            MCYCLEH => high_half(self.mcycle),
+            MINSTRETH => high_half(self.minstret),
             MSTATUSH
             | MCOUNTINHIBIT
             | MHPMEVENT3..=MHPMEVENT31

@@ -216,13 +216,16 @@ csrs =
 
 -- an instruction without operands: only its upper twelve bits tell it apart
 abbrev pub row_bare : ℕ → Instr → Row
-row_bare funct12 instr = row 0x73 (is Funct3 0 ∷ is Rd 0 ∷ is Rs1 0 ∷ is Funct12 funct12 ∷ []) (λ word. instr)
+row_bare funct12 instr =
+    row 0x73 (is Funct3 0 ∷ is Rd 0 ∷ is Rs1 0 ∷ is Funct12 funct12 ∷ []) (λ word. instr)
 
 abbrev pub bares : List Row
 bares = row_bare 0x000 Ecall ∷ row_bare 0x001 Ebreak ∷ row_bare 0x302 Mret ∷ row_bare 0x105 Wfi ∷ []
 
 unfoldable pub rows : List Row
-rows = uppers ++ jals ++ jalrs ++ branches ++ loads ++ stores ++ immediates ++ registers ++ fences ++ atomics ++ csrs ++ bares
+rows =
+    uppers ++ jals ++ jalrs ++ branches ++ loads ++ stores ++ immediates ++ registers ++ fences
+    ++ atomics ++ csrs ++ bares
 
 -- the instruction that a word spells, if it meets a row
 unfoldable pub instruction : ℕ → Option Instr

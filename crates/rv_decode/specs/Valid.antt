@@ -35,13 +35,15 @@ IsValid (Lui rd imm) = IsRegister rd × IsSigned 32 imm × IsMultiple (2 ^ 12) i
 IsValid (Auipc rd imm) = IsRegister rd × IsSigned 32 imm × IsMultiple (2 ^ 12) imm
 IsValid (Jal rd imm) = IsRegister rd × IsSigned 21 imm × IsMultiple 2 imm
 IsValid (Jalr rd rs1 imm) = IsRegister rd × IsRegister rs1 × IsSigned 12 imm
-IsValid (Branch op rs1 rs2 imm) = IsRegister rs1 × IsRegister rs2 × IsSigned 13 imm × IsMultiple 2 imm
+IsValid (Branch op rs1 rs2 imm) =
+    IsRegister rs1 × IsRegister rs2 × IsSigned 13 imm × IsMultiple 2 imm
 IsValid (Load op rd rs1 imm) = IsRegister rd × IsRegister rs1 × IsSigned 12 imm
 IsValid (Store op rs1 rs2 imm) = IsRegister rs1 × IsRegister rs2 × IsSigned 12 imm
 IsValid (OpImm op rd rs1 imm) = IsRegister rd × IsRegister rs1 × IsOperand op imm
 IsValid (Op op rd rs1 rs2) = IsRegister rd × IsRegister rs1 × IsRegister rs2
 IsValid (Fence op rd rs1 imm) = IsRegister rd × IsRegister rs1 × IsSigned 12 imm
-IsValid (Atomic op rd rs1 rs2 order) = IsRegister rd × IsRegister rs1 × IsSecond op rs2 × (order < 2 ^ 2)
+IsValid (Atomic op rd rs1 rs2 order) =
+    IsRegister rd × IsRegister rs1 × IsSecond op rs2 × (order < 2 ^ 2)
 IsValid (Csr op rd source csr) = IsRegister rd × IsRegister source × (csr < 2 ^ 12)
 IsValid Ecall = Unit {0}
 IsValid Ebreak = Unit {0}

@@ -114,11 +114,13 @@ csr_code Csrrci = 7
 
 -- fields in their places
 abbrev pub joined : (opcode rd funct3 rs1 rs2 funct7 : ℕ) → ℕ
-joined opcode rd funct3 rs1 rs2 funct7 = opcode + rd * 2 ^ 7 + funct3 * 2 ^ 12 + rs1 * 2 ^ 15 + rs2 * 2 ^ 20 + funct7 * 2 ^ 25
+joined opcode rd funct3 rs1 rs2 funct7 =
+    opcode + rd * 2 ^ 7 + funct3 * 2 ^ 12 + rs1 * 2 ^ 15 + rs2 * 2 ^ 20 + funct7 * 2 ^ 25
 
 -- the upper twelve bits as one field
 abbrev pub joined_i : (opcode rd funct3 rs1 funct12 : ℕ) → ℕ
-joined_i opcode rd funct3 rs1 funct12 = opcode + rd * 2 ^ 7 + funct3 * 2 ^ 12 + rs1 * 2 ^ 15 + funct12 * 2 ^ 20
+joined_i opcode rd funct3 rs1 funct12 =
+    opcode + rd * 2 ^ 7 + funct3 * 2 ^ 12 + rs1 * 2 ^ 15 + funct12 * 2 ^ 20
 
 -- the upper twenty bits as one field
 abbrev pub joined_u : (opcode rd upper : ℕ) → ℕ
@@ -161,10 +163,13 @@ encoded (Lui rd imm) = joined_u 0x37 rd (places_u (bits_of imm))
 encoded (Auipc rd imm) = joined_u 0x17 rd (places_u (bits_of imm))
 encoded (Jal rd imm) = joined_u 0x6f rd (places_j (bits_of imm))
 encoded (Jalr rd rs1 imm) = joined_i 0x67 rd 0 rs1 (places_i (bits_of imm))
-encoded (Branch op rs1 rs2 imm) = joined 0x63 (low_b (bits_of imm)) (branch_code op) rs1 rs2 (high_b (bits_of imm))
+encoded (Branch op rs1 rs2 imm) =
+    joined 0x63 (low_b (bits_of imm)) (branch_code op) rs1 rs2 (high_b (bits_of imm))
 encoded (Load op rd rs1 imm) = joined_i 0x03 rd (load_code op) rs1 (places_i (bits_of imm))
-encoded (Store op rs1 rs2 imm) = joined 0x23 (low_s (bits_of imm)) (store_code op) rs1 rs2 (high_s (bits_of imm))
-encoded (OpImm op rd rs1 imm) = joined_i 0x13 rd (immediate_code op) rs1 (places_i (bits_of imm) + immediate_extra op)
+encoded (Store op rs1 rs2 imm) =
+    joined 0x23 (low_s (bits_of imm)) (store_code op) rs1 rs2 (high_s (bits_of imm))
+encoded (OpImm op rd rs1 imm) =
+    joined_i 0x13 rd (immediate_code op) rs1 (places_i (bits_of imm) + immediate_extra op)
 encoded (Op op rd rs1 rs2) = joined 0x33 rd (register_code op) rs1 rs2 (register_code7 op)
 encoded (Fence op rd rs1 imm) = joined_i 0x0f rd (fence_code op) rs1 (places_i (bits_of imm))
 encoded (Atomic op rd rs1 rs2 order) = joined 0x2f rd 2 rs1 rs2 (atomic_code op * 2 ^ 2 + order)

@@ -46,7 +46,8 @@ pub fn joined_s(opcode: u32, funct3: u32, rs1: u32, rs2: u32, imm: i32) -> u32
     requires funct3 { funct3 < 2 ^ 3 }
     requires rs1 { rs1 < 2 ^ 5 }
     requires rs2 { rs2 < 2 ^ 5 }
-    ensures { result ≡ joined_word opcode (low_s_of (bits_of imm)) funct3 rs1 rs2 (high_s_of (bits_of imm)) }
+    ensures { result ≡ joined_word opcode (low_s_of (bits_of imm)) funct3 rs1 rs2
+        (high_s_of (bits_of imm)) }
 {
     joined(opcode, low_s(imm), funct3, rs1, rs2, high_s(imm))
 }
@@ -57,7 +58,8 @@ pub fn joined_b(opcode: u32, funct3: u32, rs1: u32, rs2: u32, imm: i32) -> u32
     requires funct3 { funct3 < 2 ^ 3 }
     requires rs1 { rs1 < 2 ^ 5 }
     requires rs2 { rs2 < 2 ^ 5 }
-    ensures { result ≡ joined_word opcode (low_b_of (bits_of imm)) funct3 rs1 rs2 (high_b_of (bits_of imm)) }
+    ensures { result ≡ joined_word opcode (low_b_of (bits_of imm)) funct3 rs1 rs2
+        (high_b_of (bits_of imm)) }
 {
     joined(opcode, low_b(imm), funct3, rs1, rs2, high_b(imm))
 }

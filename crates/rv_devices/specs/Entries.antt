@@ -26,7 +26,8 @@ abbrev pub ticks_before : ℕ → List Entry → ℕ
 ticks_before place entries = sum_by ticks_of (take place entries)
 
 abbrev pub latency_before : ℕ → List Entry → ℕ
-latency_before place entries = last_or 1000 (filter_map (λ entry. latency_by entry.what) (take place entries))
+latency_before place entries =
+    last_or 1000 (filter_map (λ entry. latency_by entry.what) (take place entries))
 
 -- the serial bytes of the entry at a place
 abbrev pub arrivals_at : ℕ → List Entry → List Arrival

@@ -8,12 +8,15 @@ use Rattle.rv_devices.specs.declared.schedule.Schedule.{Schedule}
 
 -- the serial bytes that it has still to give
 abbrev pub left_of : Schedule → List Arrival
-left_of schedule = drop schedule.taken (flat_map arrivals_of (drop schedule.source schedule.entries.items))
+left_of schedule =
+    drop schedule.taken (flat_map arrivals_of (drop schedule.source schedule.entries.items))
 
 -- and the one that waits
 abbrev pub next_byte : Schedule → Option Arrival
 next_byte schedule =
-    if nat_lt schedule.source schedule.place then slice_get (arrivals_at schedule.source schedule.entries.items) schedule.taken else None
+    if nat_lt schedule.source schedule.place
+    then slice_get (arrivals_at schedule.source schedule.entries.items) schedule.taken
+    else None
 
 -- A schedule of these entries, where so many steps have begun and so many serial bytes were taken.
 pub record Follows (entries : List Entry) (begun taken : ℕ) (schedule : Schedule) : Type 0 where
@@ -23,5 +26,6 @@ pub record Follows (entries : List Entry) (begun taken : ℕ) (schedule : Schedu
   pub latency_is : schedule.latency ≡ latency_before schedule.place entries
   pub within : schedule.source ≤ schedule.place
   pub left : drop taken (flat_map arrivals_of entries) ≡ left_of schedule
-  pub clear : schedule.source < schedule.place → schedule.taken < length (arrivals_at schedule.source entries)
+  pub clear : schedule.source < schedule.place
+      → schedule.taken < length (arrivals_at schedule.source entries)
   pub fresh : schedule.place ≤ schedule.source → schedule.taken ≡ 0

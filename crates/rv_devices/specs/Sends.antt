@@ -10,7 +10,8 @@ unsent transfer = (512 - transfer.sent) / 4
 
 -- and which they are
 abbrev pub words_left : Transfer → List DmaWord
-words_left transfer = words_of (unsent transfer) (drop transfer.sent transfer.bytes) transfer.address transfer.mark
+words_left transfer =
+    words_of (unsent transfer) (drop transfer.sent transfer.bytes) transfer.address transfer.mark
 
 -- a transfer has these words left, which stand below 2 ^ 32
 pub record Sends (words : List DmaWord) (transfer : Transfer) : Type 0 where

@@ -12,7 +12,8 @@ use Rattle.rv_devices.specs.Sends.{Sends, words_left}
 -- what it is at, with the words of the command that is being done
 abbrev pub activity_of : Activity → Transfer → model.Activity
 activity_of code.Idle pending = model.Idle
-activity_of (code.Busy before) pending = model.Busy (record { before = before; words = words_left pending })
+activity_of (code.Busy before) pending =
+    model.Busy (record { before = before; words = words_left pending })
 activity_of code.Done pending = model.Done
 activity_of code.Refused pending = model.Refused
 
@@ -24,7 +25,8 @@ NotBefore step code.Done = Unit {0}
 NotBefore step code.Refused = Unit {0}
 
 -- a disk of a board in this state, with these words still to be handed out
-pub record Serves (script : Script) (words : List DmaWord) (state : model.BoardState) (disk : Disk) : Type 0 where
+pub record Serves (script : Script) (words : List DmaWord) (state : model.BoardState) (disk : Disk)
+    : Type 0 where
   pub bytes_are : disk.bytes.items ≡ state.bytes
   pub small : length state.bytes < 2 ^ 32
   pub sectors_are : disk.sectors.items ≡ script.sectors
@@ -34,3 +36,14 @@ pub record Serves (script : Script) (words : List DmaWord) (state : model.BoardS
   pub activity_is : activity_of disk.activity disk.pending ≡ state.activity
   pub below : disk.pending.address + (512 - disk.pending.sent) ≤ 2 ^ 32
   pub sending : Sends words disk.sending
+
+-- A command has begun that completes before this step, at the address that the disk was told. All else but its bytes and
+-- the command's is as it was.
+pub record Begins (before : ℕ) (old new : Disk) : Type 0 where
+  pub busy : new.activity ≡ code.Busy before
+  pub to : new.pending.address ≡ old.address
+  pub sectors : new.sectors.items ≡ old.sectors.items
+  pub sector : new.sector ≡ old.sector
+  pub address : new.address ≡ old.address
+  pub control : new.control ≡ old.control
+  pub sending : new.sending ≡ old.sending

@@ -27,12 +27,14 @@ pub record IsQuiet (entries : List Entry) (board : Board) : Type 0 where
   pub disk : NotBefore board.quiet board.disk.activity
 
 -- A board of this script in this state, where so many steps have begun, with these words still to be handed out.
-pub record Stands (script : Script) (begun : ℕ) (words : List DmaWord) (state : BoardState) (board : Board) : Type 0 where
+pub record Stands (script : Script) (begun : ℕ) (words : List DmaWord) (state : BoardState)
+    (board : Board) : Type 0 where
   pub playable : IsPlayable script
   pub begun_is : board.begun ≡ begun
   pub numbered : begun ≤ 2 ^ 32
   pub follows : Follows script.entries begun state.taken board.schedule
-  pub times : Times script.clock begun (ticks_before board.schedule.place script.entries) state.offset board.timer
+  pub times : Times script.clock begun
+      (ticks_before board.schedule.place script.entries) state.offset board.timer
   pub compare_is : board.timer.compare ≡ state.compare
   pub serial_is : board.serial_control ≡ state.serial_control
   pub serves : Serves script words state board.disk

@@ -14,14 +14,20 @@ pub record Times (clock begun ticks offset : ℕ) (timer : Timer) : Type 0 where
 
 -- how often a timer rises by its clock until so many steps have begun, and the timer then
 abbrev pub rises_until : Timer → (begun : ℕ) → ℕ
-rises_until timer begun = if nat_le begun timer.rise then 0 else (begun - 1 - timer.rise) / timer.clock + 1
+rises_until timer begun =
+    if nat_le begun timer.rise then 0 else (begun - 1 - timer.rise) / timer.clock + 1
 
 abbrev pub passed : Timer → (begun : ℕ) → Timer
-passed timer begun = record timer { rise = timer.rise + rises_until timer begun * timer.clock; count = (timer.count + rises_until timer begun) % 2 ^ 64 }
+passed timer begun = record timer {
+  rise = timer.rise + rises_until timer begun * timer.clock;
+  count = (timer.count + rises_until timer begun) % 2 ^ 64;
+}
 
 -- so often it may rise while its line stays as it is, and so up to this step
 abbrev pub rises_kept : Timer → ℕ
-rises_kept timer = if nat_lt timer.count timer.compare then timer.compare - timer.count - 1 else 2 ^ 64 - 1 - timer.count
+rises_kept timer =
+    if nat_lt timer.count timer.compare then timer.compare - timer.count - 1
+    else 2 ^ 64 - 1 - timer.count
 
 abbrev pub steady_until : Timer → ℕ
 steady_until timer = timer.rise + rises_kept timer * timer.clock

@@ -8,10 +8,10 @@ use crate::Effect;
 use crate::disk::Disk;
 use crate::register::{Register, find};
 use crate::schedule::Schedule;
-use crate::timer::{Timer, high_half, low_half, with_high, with_low};
+use crate::timer::Timer;
 use crate::transfer::SECTOR_BYTES;
 use in_script::Script;
-use memory_map::{NoMemory, SERIAL_DATA};
+use memory_map::{NoMemory, SERIAL_DATA, high_half, low_half, with_high, with_low};
 use run_events::{DmaWord, Supplied};
 use rv_memory::Ram;
 use std::alloc::Global;
@@ -106,7 +106,8 @@ impl Board {
     pub fn new(_alloc: Global, script: Script, disk: Vec<u8>) -> Result<Board, NoMemory>
         requires script { IsPlayable script }
         requires disk { vec_len disk ≤ 2 ^ 24 }
-        ensures stands { IfOk result (λ board. Stands script 0 [] (model.reset_board (model.padded disk.items)) board) }
+        ensures stands { IfOk result
+            (λ board. Stands script 0 [] (model.reset_board (model.padded disk.items)) board) }
         ensures begun { IfOk result (λ board. steps_begun board ≡ 0) }
         ensures left { IfOk result (λ board. words_due board ≡ 0) }
     {
@@ -131,7 +132,8 @@ impl Board {
         ensures begun { self.new.begun ≡ step + 1 }
         ensures stands { (script : Outside) (state : BoardState)
             → Stands script step [] state self.old
-            → Stands script (step + 1) (model.words_before step state) (model.at_step step state) self.new }
+            → Stands script (step + 1) (model.words_before step state)
+            (model.at_step step state) self.new }
     {
         self.begun = u64::from(step) + 1;
         self.timer.advance(step);
@@ -149,7 +151,8 @@ impl Board {
         ensures begun { steps_begun self.new ≡ step + 1 }
         ensures stands { (script : Outside) (state : BoardState)
             → Stands script step [] state self.old
-            → Stands script (step + 1) (model.words_before step state) (model.at_step step state) self.new }
+            → Stands script (step + 1) (model.words_before step state)
+            (model.at_step step state) self.new }
     {
         if u64::from(step) < self.quiet.min(self.timer.rise) {
             self.begun = u64::from(step) + 1;
@@ -268,7 +271,8 @@ impl Board {
         ensures left { self.new.disk.sending ≡ self.old.disk.sending }
         ensures stands { (script : Outside) (step : ℕ) (words : List DmaWord) (state : BoardState)
             → Stands script (step + 1) words state self.old
-            → Stands script (step + 1) words (model.commanded script step ram.now command state) self.new }
+            → Stands script (step + 1) words
+            (model.commanded script step ram.now command state) self.new }
     {
         let before = (self.begun - 1).wrapping_add(u64::from(self.schedule.latency()));
         self.disk.command(command, before, ram);
@@ -283,7 +287,8 @@ impl Board {
         ensures left { self.new.disk.sending ≡ self.old.disk.sending }
         ensures stands { (script : Outside) (step : ℕ) (words : List DmaWord) (state : BoardState)
             → Stands script (step + 1) words state self.old
-            → Stands script (step + 1) words (model.stored_by script step ram.now value state (named register)) self.new }
+            → Stands script (step + 1) words
+            (model.stored_by script step ram.now value state (named register)) self.new }
     {
         match register {
             Register::CompareLow => self.timer.compare = with_low(self.timer.compare, value),
@@ -310,7 +315,8 @@ impl Board {
         ensures effect { result ≡ effect_of address value }
         ensures stands { (script : Outside) (step : ℕ) (words : List DmaWord) (state : BoardState)
             → Stands script (step + 1) words state self.old
-            → Stands script (step + 1) words (model.after_store script step ram.now state address value) self.new }
+            → Stands script (step + 1) words
+            (model.after_store script step ram.now state address value) self.new }
         ensures begun { steps_begun self.new ≡ steps_begun self.old }
         ensures left { words_due self.new ≡ words_due self.old }
     {

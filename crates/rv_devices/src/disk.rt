@@ -32,17 +32,17 @@ pub struct Disk {
 }
 
 // Whether a span names a sector.
-fn names(span: &Span, sector: u32) -> bool
-    ensures { result ≡ model.names sector span.now }
+fn holds_sector(span: &Span, sector: u32) -> bool
+    ensures { result ≡ model.holds_sector sector span.now }
 {
     span.first <= sector && sector <= span.last
 }
 
 // Whether one of some spans names a sector.
 fn is_named(spans: &[Span], sector: u32) -> bool
-    ensures { result ≡ list_any (model.names sector) spans.now }
+    ensures { result ≡ list_any (model.holds_sector sector) spans.now }
 {
-    spans.iter().any(|span| names(span, sector))
+    spans.iter().any(|span| holds_sector(span, sector))
 }
 
 impl Disk {
@@ -56,7 +56,7 @@ impl Disk {
     ghost use Rattle.machine_model.specs.Board as model;
     ghost use Rattle.machine_model.specs.Board.{BoardState};
     ghost use Rattle.rv_devices.specs.Sends.{unsent};
-    ghost use Rattle.rv_devices.specs.Serves.{Serves, NotBefore, activity_of};
+    ghost use Rattle.rv_devices.specs.Serves.{Begins, NotBefore, Serves, activity_of};
 
     /// The disk of these bytes at reset.
     pub fn new(bytes: Vec<u8>, sectors: Vec<Span>) -> Disk
@@ -108,7 +108,8 @@ impl Disk {
     /// Whether it raises the external line.
     pub fn line(&self) -> bool
         ensures { result
-            ≡ (nat_le 2 (model.status_of (activity_of self.now.activity self.now.pending)) && self.now.control == 1) }
+            ≡ (nat_le 2 (model.status_of (activity_of self.now.activity self.now.pending))
+            && self.now.control == 1) }
     {
         self.status() >= 2 && self.control == 1
     }
@@ -143,10 +144,12 @@ impl Disk {
     /// A store to the status.
     pub fn acknowledge(&mut self)
         ensures sending { self.new.sending ≡ self.old.sending }
-        ensures quiet { (step : ℕ) → NotBefore step self.old.activity → NotBefore step self.new.activity }
+        ensures quiet { (step : ℕ) → NotBefore step self.old.activity
+            → NotBefore step self.new.activity }
         ensures serves { (script : Script) (words : List DmaWord) (state : BoardState)
             → Serves script words state self.old
-            → Serves script words (record state { activity = model.acknowledged state.activity }) self.new }
+            → Serves script words
+            (record state { activity = model.acknowledged state.activity }) self.new }
     {
         match self.activity {
             Activity::Busy { .. } => {}
@@ -157,7 +160,8 @@ impl Disk {
     // Whether a disk that is not busy accepts a command.
     fn accepts(&self, command: u32, ram: &Ram) -> bool
         ensures { result
-            ≡ model.is_accepted (length ram.now) (model.sector_count self.now.bytes.items) command self.now.sector self.now.address }
+            ≡ model.is_accepted (length ram.now) (model.sector_count self.now.bytes.items)
+            command self.now.sector self.now.address }
     {
         (command == 1 || command == 2)
             && ((self.sector as usize) < self.count()
@@ -167,18 +171,13 @@ impl Disk {
     // Begins to read: keeps the words of the sector until the command completes.
     fn read(&mut self, before: u64)
         requires { self.old.sector < model.sector_count self.old.bytes.items }
+        ensures begins { Begins before self.old self.new }
         ensures bytes { self.new.bytes.items ≡ self.old.bytes.items }
-        ensures sectors { self.new.sectors.items ≡ self.old.sectors.items }
-        ensures sector { self.new.sector ≡ self.old.sector }
-        ensures address { self.new.address ≡ self.old.address }
-        ensures control { self.new.control ≡ self.old.control }
-        ensures sending { self.new.sending ≡ self.old.sending }
-        ensures kept { self.new.pending.bytes ≡ take 512 (drop (512 * self.old.sector) self.old.bytes.items) }
+        ensures kept { self.new.pending.bytes
+            ≡ take 512 (drop (512 * self.old.sector) self.old.bytes.items) }
         ensures sent { self.new.pending.sent ≡ 0 }
-        ensures to { self.new.pending.address ≡ self.old.address }
-        ensures busy { self.new.activity ≡ Activity.Busy before }
         ensures mark { self.new.pending.mark
-            ≡ (if list_any (model.names self.old.sector) self.old.sectors.items then 1 else 0) }
+            ≡ (if list_any (model.holds_sector self.old.sector) self.old.sectors.items then 1 else 0) }
     {
         let at = SECTOR_BYTES * self.sector as usize;
         let sector = &self.bytes[at..at + SECTOR_BYTES];
@@ -197,16 +196,11 @@ impl Disk {
     fn write(&mut self, before: u64, ram: &Ram)
         requires sector { self.old.sector < model.sector_count self.old.bytes.items }
         requires held { InRam (length ram.now) self.old.address 512 }
+        ensures begins { Begins before self.old self.new }
         ensures bytes { self.new.bytes.items
-            ≡ placed self.old.bytes.items (512 * self.old.sector) (take 512 (drop (self.old.address - RAM_START) ram.now)) }
-        ensures sectors { self.new.sectors.items ≡ self.old.sectors.items }
-        ensures sector { self.new.sector ≡ self.old.sector }
-        ensures address { self.new.address ≡ self.old.address }
-        ensures control { self.new.control ≡ self.old.control }
-        ensures sending { self.new.sending ≡ self.old.sending }
-        ensures busy { self.new.activity ≡ Activity.Busy before }
+            ≡ placed self.old.bytes.items (512 * self.old.sector)
+            (take 512 (drop (self.old.address - RAM_START) ram.now)) }
         ensures sent { self.new.pending.sent ≡ 512 }
-        ensures to { self.new.pending.address ≡ self.old.address }
     {
         let at = SECTOR_BYTES * self.sector as usize;
         self.bytes[at..at + SECTOR_BYTES].copy_from_slice(ram.bytes(self.address, 512));

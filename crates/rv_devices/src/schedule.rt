@@ -102,7 +102,8 @@ impl Schedule {
         ensures forward { self.old.place ≤ self.new.place }
         ensures due { AreDue (step + 1) self.old.place self.old.entries.items
             → AreDue (step + 1) self.new.place self.old.entries.items }
-        ensures stops { IfSome (slice_get self.old.entries.items self.new.place) (λ entry. step + 1 ≤ entry.at) }
+        ensures stops { IfSome (slice_get self.old.entries.items self.new.place)
+            (λ entry. step + 1 ≤ entry.at) }
         ensures ticks { (result + ticks_before self.old.place self.old.entries.items) % 2 ^ 64
             ≡ ticks_before self.new.place self.old.entries.items % 2 ^ 64 }
         ensures latency { self.old.latency ≡ latency_before self.old.place self.old.entries.items
@@ -212,7 +213,8 @@ impl Schedule {
         ensures byte { result ≡ byte_given (next_byte self.old) }
         ensures follows { (entries : List Arrives) (begun taken : ℕ)
             → Follows entries begun taken self.old
-            → Follows entries begun (if nat_lt self.old.source self.old.place then taken + 1 else taken) self.new }
+            → Follows entries begun
+            (if nat_lt self.old.source self.old.place then taken + 1 else taken) self.new }
         ensures place { self.new.place ≡ self.old.place }
         ensures entries { self.new.entries.items ≡ self.old.entries.items }
     {

@@ -1,7 +1,6 @@
 //! The timer: a count that rises with its clock and with the ticks of a script, and what it is compared with.
 //! (Privileged manual, 3.2.1.)
 ghost use Rattle.std.specs.Prelude.{◌≡◌, ℕ, ◌+◌, ◌-◌, ◌%◌, ◌^◌, ◌≤◌, nat_le};
-ghost use Rattle.machine_model.specs.Board as model;
 ghost use Rattle.rv_devices.specs.Times.{Times, passed, rises_kept, steady_until};
 
 /// The two counts, and when the first one rises next.
@@ -46,7 +45,8 @@ impl Timer {
     /// Goes on to where so many steps have begun.
     #[inline]
     pub fn pass(&mut self, begun: u64)
-        ensures passes { 1 ≤ self.old.clock → begun ≤ 2 ^ 32 → self.old.rise ≤ 2 ^ 32 + self.old.clock
+        ensures passes { 1 ≤ self.old.clock → begun ≤ 2 ^ 32
+            → self.old.rise ≤ 2 ^ 32 + self.old.clock
             → self.new ≡ passed self.old begun }
         ensures compare { self.new.compare ≡ self.old.compare }
     {
@@ -97,32 +97,4 @@ impl Timer {
     {
         self.count >= self.compare
     }
-}
-
-/// The low 32 bits.
-pub fn low_half(value: u64) -> u32
-    ensures { result ≡ model.low_half value }
-{
-    (value % 0x1_0000_0000) as u32
-}
-
-/// The high 32 bits.
-pub fn high_half(value: u64) -> u32
-    ensures { result ≡ model.high_half value }
-{
-    (value / 0x1_0000_0000) as u32
-}
-
-/// The value with other low 32 bits.
-pub fn with_low(value: u64, half: u32) -> u64
-    ensures { result ≡ model.with_low value half }
-{
-    value / 0x1_0000_0000 * 0x1_0000_0000 + u64::from(half)
-}
-
-/// The value with other high 32 bits.
-pub fn with_high(value: u64, half: u32) -> u64
-    ensures { result ≡ model.with_high value half }
-{
-    u64::from(half) * 0x1_0000_0000 + value % 0x1_0000_0000
 }

@@ -35,7 +35,8 @@ impl Transfer {
     /// Hands out the next word, if one is left.
     pub fn next(&mut self) -> Option<DmaWord>
         ensures next { (words : List DmaWord) → Sends words self.old → result ≡ slice_get words 0 }
-        ensures sends { (words : List DmaWord) → Sends words self.old → Sends (drop 1 words) self.new }
+        ensures sends { (words : List DmaWord) → Sends words self.old
+            → Sends (drop 1 words) self.new }
         ensures left { unsent self.new ≡ unsent self.old - 1 }
         ensures some { IsSome result ↔ (1 ≤ unsent self.old) }
     {

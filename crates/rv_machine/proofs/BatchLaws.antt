@@ -23,8 +23,8 @@ use Rattle.rv_cpu.proofs.PlainLaws.{plain_first, plain_needs, plain_others, plai
 use Rattle.rv_devices.specs.Stands.{Stands, words_due}
 use Rattle.rv_devices.specs.Still.{AreStill, IsStill}
 use Rattle.rv_devices.specs.declared.board.Board.{Board}
-use Rattle.rv_machine.specs.Phase.{is_over, items_left, items_of, mark_items, phase_after}
-use Rattle.rv_machine.specs.ToCome.{Awaits, Moves, coming}
+use Rattle.rv_machine.specs.Phase.{is_over, items_at_most, items_of, mark_items, phase_after}
+use Rattle.rv_machine.specs.ToCome.{Awaits, MovesOn, coming}
 use Rattle.rv_machine.specs.declared.machine.Machine.{Machine}
 use Rattle.rv_machine.specs.declared.phase.Phase.TheVariants.{Between, Words, Need}
 use Rattle.rv_machine.proofs.ComingLaws.{coming-begin, coming-event, coming-same, coming-step, coming-words}
@@ -151,13 +151,13 @@ unmarked done is = by (done % 256 == 0) refl
     by false same = grind (arith, nat_tests, same)
 
 pub moves_ran : (given : Option Item) (more : ℕ) (before after : Machine) → items_of given ≡ mark_items (before.cpu.step + suc more) → after.cpu.step ≡ before.cpu.step + suc more → before.cpu.step / 256 ≡ (before.cpu.step + more) / 256
-    → before.phase ≡ Need → after.phase ≡ Between → before.left ≡ after.left + more → Moves given before after
+    → before.phase ≡ Need → after.phase ≡ Between → before.left ≡ after.left + more → MovesOn given before after
 moves_ran None more before after is counted same was next left =
     let off = unmarked (before.cpu.step + suc more) is in
-    let weight = ap (λ p. items_left p before.left (words_due before.board)) was in
-    let lighter = ap (λ p. items_left p after.left (words_due after.board)) next in
+    let weight = ap (λ p. items_at_most p before.left (words_due before.board)) was in
+    let lighter = ap (λ p. items_at_most p after.left (words_due after.board)) next in
     record { going = ap is_over next; onward = omega (arith, counted); block = omega (arith, counted, same, off); less = omega (arith, weight, lighter, left) }
 moves_ran (Some item) more before after is counted same was next left =
-    let weight = ap (λ p. items_left p before.left (words_due before.board)) was in
-    let lighter = ap (λ p. items_left p after.left (words_due after.board)) next in
+    let weight = ap (λ p. items_at_most p before.left (words_due before.board)) was in
+    let lighter = ap (λ p. items_at_most p after.left (words_due after.board)) next in
     record { few = omega (arith, counted, same); less = omega (arith, weight, lighter, left) }

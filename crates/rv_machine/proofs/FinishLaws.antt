@@ -18,8 +18,8 @@ use Rattle.machine_model.specs.Board.{BoardState, IsUnderWay, board_lines}
 use Rattle.machine_model.specs.Script.{Script}
 use Rattle.rv_devices.specs.Stands.{Stands, words_due}
 use Rattle.rv_devices.specs.declared.board.Board.{Board}
-use Rattle.rv_machine.specs.Phase.{Supplies, awaits, inside, is_over, items_left, items_of, phase_after, sends}
-use Rattle.rv_machine.specs.ToCome.{Awaits, Gives, HasTold, MayBeDue, Moves, ToCome, coming, to_do}
+use Rattle.rv_machine.specs.Phase.{Supplies, awaits, inside, is_over, items_at_most, items_of, phase_after, sends}
+use Rattle.rv_machine.specs.ToCome.{Awaits, GivesNext, HasTold, MayBeDue, MovesOn, ToCome, coming, to_do}
 use Rattle.rv_machine.specs.declared.machine.Machine.{Machine}
 use Rattle.rv_machine.specs.declared.phase.Phase.{Phase}
 use Rattle.rv_machine.specs.declared.phase.Phase.TheVariants.{Between, Words, Lines, Need, Given, Ending, Over}
@@ -31,7 +31,7 @@ pub record IsOutside (phase : Phase) : Type 0 where
   pub quiet : sends phase ≡ 0
   pub ready : (loads : Bool) → awaits phase loads ≡ true
   pub going : is_over phase ≡ false
-  pub few : (left due : ℕ) → items_left phase left due ≤ 133 * left + 1
+  pub few : (left due : ℕ) → items_at_most phase left due ≤ 133 * left + 1
 
 pub after_outside : (o : Option ℕ) → IsOutside (phase_after o)
 after_outside None = record { outside = refl; quiet = refl; ready = λ loads. refl; going = refl; few = λ left due. omega arith }
@@ -50,7 +50,7 @@ supplies_given (Ending cause) supplied s lines is given = elim is [ ]
 supplies_given Over supplied s lines is given = elim is [ ]
 
 -- and its items were counted
-items_inside : (phase : Phase) (left due : ℕ) → inside phase ≡ 1 → sends phase ≡ 0 → 133 * left + 2 ≤ items_left phase left due
+items_inside : (phase : Phase) (left due : ℕ) → inside phase ≡ 1 → sends phase ≡ 0 → 133 * left + 2 ≤ items_at_most phase left due
 items_inside Between left due within quiet = absurd (omega (arith, within))
 items_inside Words left due within quiet = absurd (omega (arith, quiet))
 items_inside Lines left due within quiet = omega arith
@@ -72,7 +72,7 @@ unmarked_step n event is =
     omega (arith, above)
 
 module _ (before after : Machine) (event : Event) where
-  moves_given : (given : Option Item) → items_of given ≡ reach_items before.cpu.step event → after.cpu.step ≡ before.cpu.step + 1 → is_over after.phase ≡ false → to_do after < to_do before → Moves given before after
+  moves_given : (given : Option Item) → items_of given ≡ reach_items before.cpu.step event → after.cpu.step ≡ before.cpu.step + 1 → is_over after.phase ≡ false → to_do after < to_do before → MovesOn given before after
   moves_given None is counted going less = record {
     going = going;
     onward = omega (arith, counted);
@@ -83,7 +83,7 @@ module _ (before after : Machine) (event : Event) where
 
   -- what the end of a step moves
   pub moves_finished : (given : Option Item) → inside before.phase ≡ 1 → sends before.phase ≡ 0 → items_of given ≡ reach_items before.cpu.step event → after.cpu.step ≡ before.cpu.step + 1
-      → after.phase ≡ phase_after (power_status event) → after.left ≡ before.left → Moves given before after
+      → after.phase ≡ phase_after (power_status event) → after.left ≡ before.left → MovesOn given before after
   moves_finished given within quiet is counted next left =
       let out : IsOutside after.phase = subst IsOutside (sym next) (after_outside (power_status event)) in
       let few = out.few after.left (words_due after.board) in
@@ -96,7 +96,7 @@ pub record Behind (items made : List Item) (After : List Item → Type 0) : Type
   pub are : items ≡ made ++ rest
   pub after : After rest
 
-pub gives_behind : (given : Option Item) (items made : List Item) (m : Machine) → items_of given ≡ made → Behind items made (ToCome m) → Gives given items m
+pub gives_behind : (given : Option Item) (items made : List Item) (m : Machine) → items_of given ≡ made → Behind items made (ToCome m) → GivesNext given items m
 gives_behind None items made m same is = subst (ToCome m) (sym (is.are ∙ ap (λ l. l ++ is.rest) (sym same))) is.after
 gives_behind (Some item) items made m same is = record { rest = is.rest; first = is.are ∙ ap (λ l. l ++ is.rest) (sym same); to_come = is.after }
 

@@ -2,10 +2,10 @@
 use Rattle.std.proofs.Common.{◌≡◌, ℕ, false, ◌+◌, ◌/◌, ◌≤◌, List, Option, None, Some, ap, ◌∙◌, arith}
 use Rattle.run_events.specs.declared.item.Item.{Item}
 use Rattle.rv_machine.specs.Phase.{is_over}
-use Rattle.rv_machine.specs.ToCome.{Found, Moves, ToCome, Turned, to_do}
+use Rattle.rv_machine.specs.ToCome.{FoundNext, MovesOn, ToCome, IsOneTurn, to_do}
 use Rattle.rv_machine.specs.declared.machine.Machine.{Machine}
 
-pub moves_from : (given : Option Item) (before mid after : Machine) → mid.cpu.step ≡ before.cpu.step → to_do mid ≤ to_do before → Moves given mid after → Moves given before after
+pub moves_from : (given : Option Item) (before mid after : Machine) → mid.cpu.step ≡ before.cpu.step → to_do mid ≤ to_do before → MovesOn given mid after → MovesOn given before after
 moves_from None before mid after same less m =
     record { going = m.going; onward = omega (arith, m.onward, same); block = m.block ∙ ap (λ n. n / 256) same; less = omega (arith, m.less, less) }
 moves_from (Some item) before mid after same less m = record { few = omega (arith, m.few, same); less = omega (arith, m.less, less) }
@@ -18,7 +18,7 @@ pub record GoneOn (turns : ℕ) (before now : Machine) : Type 0 where
   pub block : now.cpu.step / 256 ≡ before.cpu.step / 256
   pub less : to_do now ≤ to_do before
 
-pub goes_on : (turns : ℕ) (before now after : Machine) → GoneOn turns before now → Turned None now after → GoneOn (turns + 1) before after
+pub goes_on : (turns : ℕ) (before now after : Machine) → GoneOn turns before now → IsOneTurn None now after → GoneOn (turns + 1) before after
 goes_on turns before now after gone turned = record {
   gives = λ items is. turned.gives items (gone.gives items is);
   going = turned.moves.going;
@@ -27,7 +27,7 @@ goes_on turns before now after gone turned = record {
   less = omega (arith, gone.less, turned.moves.less);
 }
 
-pub found : (turns : ℕ) (before now after : Machine) (item : Item) → GoneOn turns before now → Turned (Some item) now after → Found item before after
+pub found : (turns : ℕ) (before now after : Machine) (item : Item) → GoneOn turns before now → IsOneTurn (Some item) now after → FoundNext item before after
 found turns before now after item gone turned = record {
   gives = λ items is. turned.gives items (gone.gives items is);
   few = omega (arith, gone.block, turned.moves.few);

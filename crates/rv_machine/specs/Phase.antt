@@ -13,53 +13,35 @@ use Rattle.rv_machine.specs.declared.phase.Phase.TheVariants.{Between, Words, Li
 -- 1 inside a step that has begun, else 0
 abbrev pub inside : Phase → ℕ
 inside Between = 0
-inside Words = 1
-inside Lines = 1
-inside Need = 1
-inside (Given supplied) = 1
 inside (Ending cause) = 0
 inside Over = 0
+inside _ = 1
 
 -- so many words of the disk may be due
 abbrev pub sends : Phase → ℕ
-sends Between = 0
 sends Words = 128
-sends Lines = 0
-sends Need = 0
-sends (Given supplied) = 0
-sends (Ending cause) = 0
-sends Over = 0
+sends _ = 0
 
 -- where a device register gave something, the step has to load one
 abbrev pub awaits : Phase → Bool → Bool
-awaits Between loads = true
-awaits Words loads = true
-awaits Lines loads = true
-awaits Need loads = true
 awaits (Given supplied) loads = loads
-awaits (Ending cause) loads = true
-awaits Over loads = true
+awaits _ loads = true
 
 -- the record of the end was given
 abbrev pub is_over : Phase → Bool
-is_over Between = false
-is_over Words = false
-is_over Lines = false
-is_over Need = false
-is_over (Given supplied) = false
-is_over (Ending cause) = false
 is_over Over = true
+is_over _ = false
 
 -- at most so many items are to come in a phase, with so many steps left and so many words due: in each step 128 words,
 -- the lines, a load and a mark, and one at the end
-abbrev pub items_left : Phase → (left due : ℕ) → ℕ
-items_left Between left due = 133 * left + 1
-items_left Words left due = 133 * left + due + 4
-items_left Lines left due = 133 * left + 4
-items_left Need left due = 133 * left + 3
-items_left (Given supplied) left due = 133 * left + 2
-items_left (Ending cause) left due = 1
-items_left Over left due = 0
+abbrev pub items_at_most : Phase → (left due : ℕ) → ℕ
+items_at_most Between left due = 133 * left + 1
+items_at_most Words left due = 133 * left + due + 4
+items_at_most Lines left due = 133 * left + 4
+items_at_most Need left due = 133 * left + 3
+items_at_most (Given supplied) left due = 133 * left + 2
+items_at_most (Ending cause) left due = 1
+items_at_most Over left due = 0
 
 -- how a run goes on after a step, at which the guest gave its status or did not
 abbrev pub phase_after : Option ℕ → Phase
@@ -78,10 +60,4 @@ mark_items done = if done % 256 == 0 then plain_item (Reach done) ∷ [] else []
 abbrev pub Supplies : Phase → Option Supplied → need.Need → Type 0
 Supplies Need None needed = needed ≡ Nothing
 Supplies (Given given) (Some supplied) needed = given ≡ supplied
-Supplies Between supplied needed = ⊥
-Supplies Words supplied needed = ⊥
-Supplies Lines supplied needed = ⊥
-Supplies Need (Some supplied) needed = ⊥
-Supplies (Given given) None needed = ⊥
-Supplies (Ending cause) supplied needed = ⊥
-Supplies Over supplied needed = ⊥
+Supplies _ supplied needed = ⊥

@@ -23,7 +23,7 @@ use crate::told::{after_power, mark_item, plain, reach_item, word_item};
 use any_machine::{Advance, Recorder};
 use elf_image::Image;
 use in_script::Script;
-use memory_map::NoMemory;
+use memory_map::{CrossesThreads, NoMemory};
 use run_events::{Access, DmaWord, EndCause, Event, Item, Need, Record, Supplied};
 use rv_cpu::Cpu;
 use rv_devices::Board;
@@ -45,6 +45,8 @@ pub struct Machine {
     ghost size: { length cpu.ram ≤ 2 ^ 24 },
 }
 
+impl CrossesThreads for Machine {}
+
 // The hart of a guest before its first step, over the RAM that its image fills.
 #[tactic(auto, unfolding(machine_model::specs::Image::ram_at_start))]
 fn start(alloc: Global, image: &Image, ram_kib: u32) -> Result<Cpu, NoMemory>
@@ -62,7 +64,7 @@ fn start(alloc: Global, image: &Image, ram_kib: u32) -> Result<Cpu, NoMemory>
 
 impl Machine {
     ghost use Rattle.any_machine.specs.Recording.{Advances, Falls};
-    ghost use Rattle.rv_machine.specs.ToCome.{Found, ToCome, Turned, recording};
+    ghost use Rattle.rv_machine.specs.ToCome.{FoundNext, ToCome, IsOneTurn, recording, steps_of};
 
     /// The guest of an image at step 0, beside the board of this script and this disk file, which will be run for at most
     /// `limit` steps. RAM has 64 to 16,384 KiB, the disk file at most 16 MiB. It is the only call that takes memory.
@@ -101,7 +103,7 @@ impl Machine {
         ensures next { (items : List Item) → ToCome self.old items
             → Advances recording items self.new result }
         ensures falls { Falls recording self.old self.new result }
-        ensures few { self.new.cpu.step ≤ self.old.cpu.step + 256 }
+        ensures few { steps_of self.new ≤ steps_of self.old + 256 }
     {
         match self.phase {
             Phase::Over => Advance::Ended,
@@ -118,7 +120,7 @@ impl Machine {
     // Runs on to the next item, which comes at the latest after a step whose number plus 1 is a multiple of 256.
     fn next_item(&mut self) -> Item
         requires { is_over self.old.phase ≡ false }
-        ensures { Found result self.old self.new }
+        ensures { FoundNext result self.old self.new }
     {
         'turns: for _turn in 0..256 - self.cpu.steps() % 256 {
             if let Some(item) = self.turn() {
@@ -131,7 +133,7 @@ impl Machine {
     // Goes on to the next item, or to the end of the step that is to be done.
     fn turn(&mut self) -> Option<Item>
         requires { is_over self.old.phase ≡ false }
-        ensures { Turned result self.old self.new }
+        ensures { IsOneTurn result self.old self.new }
     {
         match self.phase {
             Phase::Between => self.begin(),
@@ -147,7 +149,7 @@ impl Machine {
     // Begins the next step, if one is left.
     fn begin(&mut self) -> Option<Item>
         requires { self.old.phase ≡ Between }
-        ensures { Turned result self.old self.new }
+        ensures { IsOneTurn result self.old self.new }
     {
         if self.left == 0 {
             return Some(self.end(EndCause::Limit));
@@ -161,7 +163,7 @@ impl Machine {
     // Writes the next word of the disk to RAM, if one is due.
     fn write_words(&mut self) -> Option<Item>
         requires { self.old.phase ≡ Words }
-        ensures { Turned result self.old self.new }
+        ensures { IsOneTurn result self.old self.new }
     {
         match self.board.due() {
             Some(word) => {
@@ -178,7 +180,7 @@ impl Machine {
     // Looks at the lines, and tells them where they have changed.
     fn tell_lines(&mut self) -> Option<Item>
         requires { self.old.phase ≡ Lines }
-        ensures { Turned result self.old self.new }
+        ensures { IsOneTurn result self.old self.new }
     {
         let bits = self.board.lines();
         self.phase = Phase::Need;
@@ -196,7 +198,7 @@ impl Machine {
     // Does the step and those after it as long as they are plain ones and nothing else is due; or it is another one.
     fn run_on(&mut self) -> Option<Item>
         requires { self.old.phase ≡ Asks }
-        ensures { Turned result self.old self.new }
+        ensures { IsOneTurn result self.old self.new }
     {
         let step = self.cpu.steps();
         let more = self.board.quiet_for().min(self.left).min(255 - step % 256);
@@ -213,7 +215,7 @@ impl Machine {
     // Does the step, or takes of the board what it has to be given.
     fn ask_need(&mut self) -> Option<Item>
         requires { self.old.phase ≡ Asks }
-        ensures { Turned result self.old self.new }
+        ensures { IsOneTurn result self.old self.new }
     {
         match self.cpu.next_need(self.lines) {
             Need::Load { address, .. } => {
@@ -234,7 +236,7 @@ impl Machine {
         requires inside { inside self.old.phase ≡ 1 }
         requires quiet { sends self.old.phase ≡ 0 }
         requires given { Supplies self.old.phase supplied (needs self.old.cpu self.old.lines) }
-        ensures { Turned result self.old self.new }
+        ensures { IsOneTurn result self.old self.new }
     {
         let step = self.cpu.steps();
         let event = self.cpu.step(self.lines, supplied);
@@ -272,7 +274,8 @@ impl Recorder for Machine {
 
 // Writes a word of the disk to RAM. The disk has none for another place.
 fn write_word(cpu: &mut Cpu, word: &DmaWord)
-    ensures word { IsTrue (holds_word cpu.old word.now.address) → (touch cpu.old word.now).1 ≡ cpu.new }
+    ensures word { IsTrue (holds_word cpu.old word.now.address)
+        → (touch cpu.old word.now).1 ≡ cpu.new }
     ensures step { cpu.new.step ≡ cpu.old.step }
     ensures size { length cpu.new.ram ≡ length cpu.old.ram }
 {
@@ -288,7 +291,8 @@ fn store_access(board: &mut Board, access: &Access, ram: &Ram)
     requires ram { length ram.now ≤ 2 ^ 24 }
     ensures stands { (script : Outside) (step : ℕ) (words : List Written) (state : BoardState)
         → Stands script (step + 1) words state board.old
-        → Stands script (step + 1) words (after_access script step ram.now state access.now) board.new }
+        → Stands script (step + 1) words
+        (after_access script step ram.now state access.now) board.new }
     ensures begun { steps_begun board.new ≡ steps_begun board.old }
     ensures left { words_due board.new ≡ words_due board.old }
 {
@@ -314,7 +318,8 @@ fn store_outside(board: &mut Board, event: &Event, ram: &Ram)
     requires ram { length ram.now ≤ 2 ^ 24 }
     ensures stands { (script : Outside) (step : ℕ) (words : List Written) (state : BoardState)
         → Stands script (step + 1) words state board.old
-        → Stands script (step + 1) words (after_event script step ram.now state event.now) board.new }
+        → Stands script (step + 1) words
+        (after_event script step ram.now state event.now) board.new }
     ensures begun { steps_begun board.new ≡ steps_begun board.old }
     ensures left { words_due board.new ≡ words_due board.old }
 {
@@ -322,11 +327,4 @@ fn store_outside(board: &mut Board, event: &Event, ram: &Ram)
         Event::Exec { access, .. } => store_access(board, access, ram),
         Event::Dma { .. } | Event::Irq { .. } | Event::Trap { .. } => {}
     }
-}
-
-// A recorder may be handed to another thread.
-fn crosses_threads<T: Send>(_value: &T) {}
-
-fn machine_crosses_threads(machine: &Machine) {
-    crosses_threads(machine);
 }

@@ -13,7 +13,8 @@ loaded ram address width = from_le_bytes w32 (take width (drop (address - RAM_ST
 
 -- the bytes after a store of the value's low bytes
 abbrev pub stored : List ℕ → ℕ → ℕ → ℕ → List ℕ
-stored ram address width value = placed ram (address - RAM_START) (take width (to_le_bytes w32 value))
+stored ram address width value =
+    placed ram (address - RAM_START) (take width (to_le_bytes w32 value))
 
 -- the bytes after these were written from an address on
 abbrev pub filled : List ℕ → ℕ → List ℕ → List ℕ

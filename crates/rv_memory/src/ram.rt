@@ -5,7 +5,7 @@ ghost use Rattle.std.specs.Int.{w16, w32, from_le_bytes};
 ghost use Rattle.memory_map.specs.Ram.{InRam, IsWidth, in_ram};
 ghost use Rattle.rv_memory.specs.Ram.{loaded, stored, filled};
 
-use memory_map::{NoMemory, RAM_START};
+use memory_map::{NoMemory, RAM_START, SharedByThreads};
 use std::alloc::Global;
 use std::marker::Model;
 
@@ -14,6 +14,8 @@ use std::marker::Model;
 pub struct Ram {
     bytes: Vec<u8>,
 }
+
+impl SharedByThreads for Ram {}
 
 impl Model for Ram {
     ghost Value = { List ℕ };
@@ -118,11 +120,4 @@ impl Ram {
         let at = (address - RAM_START) as usize;
         self.bytes[at..at + bytes.len()].copy_from_slice(bytes);
     }
-}
-
-// RAM may be handed to another thread, and be read by several.
-fn crosses_threads<T: Send + Sync>(_value: &T) {}
-
-fn ram_crosses_threads(ram: &Ram) {
-    crosses_threads(ram);
 }

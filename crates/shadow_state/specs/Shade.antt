@@ -24,7 +24,9 @@ covers from to address = is_between from to address
 -- of bytes from an address on, those that the range [from, to) covers have the value, and the others stay
 unfoldable pub painted_from : ℕ → ℕ → ℕ → ℕ → List ℕ → List ℕ
 painted_from address from to value [] = []
-painted_from address from to value (byte ∷ bytes) = (if covers from to address then value else byte) ∷ painted_from (address + 1) from to value bytes
+painted_from address from to value (byte ∷ bytes) =
+    (if covers from to address then value else byte)
+    ∷ painted_from (address + 1) from to value bytes
 
 -- the bytes of RAM that the range [from, to) covers have the value, and the others stay
 abbrev pub painted : Shade → ℕ → ℕ → ℕ → Shade
@@ -40,15 +42,18 @@ pub record Paint : Type 0 where
 -- and 0 where none does
 abbrev pub last_paint : List Paint → ℕ → ℕ
 last_paint [] address = 0
-last_paint (last ∷ before) address = if covers last.from last.to address then last.value else last_paint before address
+last_paint (last ∷ before) address =
+    if covers last.from last.to address then last.value else last_paint before address
 
 -- it was painted so, and no more: each byte of RAM has the value that the last paint left
 abbrev pub IsPainted : Shade → List Paint → Type 0
-IsPainted s paints = (address : ℕ) → has_byte s address ≡ true → shade s address ≡ last_paint paints address
+IsPainted s paints =
+    (address : ℕ) → has_byte s address ≡ true → shade s address ≡ last_paint paints address
 
 -- the values of all addresses from one up to another have none of these bits
 abbrev pub NoneBetween : Shade → ℕ → ℕ → ℕ → Type 0
-NoneBetween s set from to = (address : ℕ) → from ≤ address → address < to → bit_and (shade s address) set ≡ 0
+NoneBetween s set from to =
+    (address : ℕ) → from ≤ address → address < to → bit_and (shade s address) set ≡ 0
 
 -- the least address of the range [from, to) whose value has one of these bits
 pub record IsLeast (s : Shade) (from to set address : ℕ) : Type 0 where

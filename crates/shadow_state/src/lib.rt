@@ -2,7 +2,6 @@
 #![tactic(auto)]
 
 mod shadow;
-mod shared;
 #[cfg(test)]
 mod tests;
 

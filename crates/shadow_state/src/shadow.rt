@@ -4,7 +4,7 @@ ghost use Rattle.memory_map.specs.declared.TheConstants.{LEAST_RAM_KIB, MOST_RAM
 ghost use Rattle.shadow_state.specs.Shade.{Shade, Paint, shade, has_byte, painted_from, painted, last_paint, IsPainted, IsLeast, NoneBetween};
 ghost use Rattle.shadow_state.specs.Places.{IsFirstPlace, NoPlace};
 
-use memory_map::{NoMemory, RAM_START};
+use memory_map::{NoMemory, RAM_START, SharedByThreads};
 use std::alloc::Global;
 use std::marker::Model;
 
@@ -13,6 +13,8 @@ use std::marker::Model;
 pub struct Shadow {
     bytes: Vec<u8>,
 }
+
+impl SharedByThreads for Shadow {}
 
 impl Model for Shadow {
     ghost use Rattle.std.specs.Prelude.{◌≤◌, length};
@@ -153,7 +155,8 @@ fn paint_bytes(bytes: &mut [u8], from: u64, to: u64, value: u8)
 fn fill(bytes: &mut [u8], start: usize, end: usize, value: u8)
     requires ordered { start ≤ end }
     requires within { end ≤ length bytes.old }
-    ensures { bytes.new ≡ take start bytes.old ++ (replicate (end - start) value ++ drop end bytes.old) }
+    ensures { bytes.new ≡ take start bytes.old
+        ++ (replicate (end - start) value ++ drop end bytes.old) }
 {
     bytes[start..end].fill(value);
 }

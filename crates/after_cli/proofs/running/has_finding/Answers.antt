@@ -1,9 +1,8 @@
-use Rattle.std.proofs.Common.{◌≡◌, ap, sym, ◌∙◌, arith}
+use Rattle.std.proofs.Common.{ap, sym, ◌∙◌, arith}
 use Rattle.std.specs.Prelude.{is_some}
 use Rattle.analysis_model.specs.Complaints.{findings}
 use Rattle.analysis_model.specs.Findings.{first_step}
-use Rattle.job_model.specs.Job.{Job, events, guest}
-use Rattle.guard_run.specs.Closings.{IsWholeRun}
+use Rattle.job_model.specs.Job.{events, guest}
 use Rattle.after_cli.proofs.ReportLaws.{tells_of, same_count, any_next, any_found}
 use Rattle.after_cli.proofs.running.has_finding.Goals as goal
 

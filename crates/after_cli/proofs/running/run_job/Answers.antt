@@ -1,6 +1,5 @@
-use Rattle.std.proofs.Common.{arith, inl, inr}
-use Rattle.after_edge.proofs.SinkLaws.{Adds-then, Writes-then, WritesPart-more, WritesPart-prefix, WritesPart-then}
-use Rattle.after_edge.proofs.FaultLaws.{Rose-later}
+use Rattle.std.proofs.Common.{inl, inr}
+use Rattle.after_edge.proofs.SinkLaws.{Adds-then, Writes-then, WritesPart-more, WritesPart-then}
 use Rattle.std.specs.Prelude.{take}
 use Rattle.guard_run.specs.Jobs.{job_of}
 use Rattle.guard_run.specs.Openings.{released_in}

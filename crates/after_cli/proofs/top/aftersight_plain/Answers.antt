@@ -1,5 +1,4 @@
 use Rattle.std.proofs.Common.{map, string_bytes}
-use Rattle.after_cli.specs.Ends.{Call, Ends}
 use Rattle.after_cli.proofs.AnswerLaws.{ends_of}
 use Rattle.after_cli.proofs.ExactLaws.{exact_of}
 use Rattle.after_cli.proofs.top.aftersight_plain.Goals as goal

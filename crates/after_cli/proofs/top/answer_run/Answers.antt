@@ -2,9 +2,9 @@ use Rattle.std.proofs.Common.{arith}
 use Rattle.std.specs.Prelude.{count_ones}
 use Rattle.std.specs.List.{Contains}
 use Rattle.std.proofs.lemmas.Bool.{eqb-true}
+use Rattle.list_laws.proofs.AllLaws.{each_item}
 use Rattle.command_words.specs.Sound.{IsSoundRun}
 use Rattle.command_words.specs.Says.{run_said}
-use Rattle.after_cli.proofs.AskedLaws.{each_item}
 use Rattle.after_cli.proofs.LogSizes.{cap_from_size}
 use Rattle.after_cli.proofs.top.answer_run.Goals as goal
 

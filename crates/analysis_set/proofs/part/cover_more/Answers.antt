@@ -11,5 +11,5 @@ returns-clause-err g c =
     let is : c.as_bytes.result.now ≡ pcs_line (length (pcs_now c.args.coverage.now)) (length (ranges_now c.args.coverage.now)) =
     rw (← c.pcs.ensures.now, ← c.ranges-2.ensures.now) (c.as_bytes.ensures ∙ c.pcs-2.ensures)
     in
-    let line = Writes-same g.O.Sink.told _ _ is c.in-Ok.ensures.ok in
+    let line = Writes-same g.O.Sink.told _ _ is c.in_ok-put.ensures.ok in
     on_err_weaker c.put_ranges.result (WritesPart-then g.O.Sink.told _ c.put.new.self _ _ _ line) c.put_ranges.ensures.err

@@ -1,5 +1,3 @@
-use Rattle.std.proofs.Common.{arith, subst, sym, length, count_by, eqb}
-use Rattle.std.proofs.lemmas.List.Sums.{count_by-le-length}
 use Rattle.run_inputs.specs.Read.{bytes_of}
 use Rattle.run_inputs.proofs.JudgeLaws.{image_judged, script_judged}
 use Rattle.run_inputs.proofs.ScriptPlays.{script_plays, script_marked}

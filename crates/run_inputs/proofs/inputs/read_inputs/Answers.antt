@@ -1,7 +1,5 @@
-use Rattle.std.proofs.Common.{◌≤◌, ℕ, arith, length, subst, sym, Ok, Err, IfOk, Result}
 use Rattle.std.specs.Prelude.{option_copied}
 use Rattle.run_inputs.specs.Files.{Names}
-use Rattle.run_inputs.specs.Given.{disk_max}
 use Rattle.run_inputs.specs.Read.{bytes_of}
 use Rattle.run_inputs.proofs.BytesLaws.{are_short}
 use Rattle.run_inputs.proofs.JudgeLaws.{read_refused, judged_ok, judged_err, short_disk}

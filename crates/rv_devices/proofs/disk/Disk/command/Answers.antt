@@ -25,11 +25,11 @@ returns-clause-serves c = λ script step words state at serves.
     (record {
       bytes_are = cc (w.bytes, serves.bytes_are, serves.sector_is, serves.address_is);
       small = omega (arith, serves.small, kept);
-      sectors_are = w.sectors ∙ serves.sectors_are;
-      sector_is = w.sector ∙ serves.sector_is;
-      address_is = w.address ∙ serves.address_is;
-      control_is = w.control ∙ serves.control_is;
-      activity_is = ap (λ a. activity_of a next.pending) w.busy ∙ ap (λ l. model.busy_until c.args.before l) (no_words next.pending w.sent) ∙ ap (λ n. model.busy_until n []) at;
-      below = omega (arith, w.sent, w.to, below, c.requires);
-      sending = rw w.sending serves.sending;
+      sectors_are = w.begins.sectors ∙ serves.sectors_are;
+      sector_is = w.begins.sector ∙ serves.sector_is;
+      address_is = w.begins.address ∙ serves.address_is;
+      control_is = w.begins.control ∙ serves.control_is;
+      activity_is = ap (λ a. activity_of a next.pending) w.begins.busy ∙ ap (λ l. model.busy_until c.args.before l) (no_words next.pending w.sent) ∙ ap (λ n. model.busy_until n []) at;
+      below = omega (arith, w.sent, w.begins.to, below, c.requires);
+      sending = rw w.begins.sending serves.sending;
     })

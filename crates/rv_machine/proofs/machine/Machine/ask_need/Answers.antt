@@ -4,7 +4,7 @@ use Rattle.run_events.specs.declared.record.Record.TheVariants.{Load as LoadReco
 use Rattle.any_machine.specs.Log.{plain_item}
 use Rattle.hart_model.proofs.DeviceLaws.{needs_at}
 use Rattle.rv_devices.specs.Stands.{words_due}
-use Rattle.rv_machine.specs.Phase.{items_left}
+use Rattle.rv_machine.specs.Phase.{items_at_most}
 use Rattle.rv_machine.specs.ToCome.{Awaits}
 use Rattle.rv_machine.proofs.ComingLaws.{register_there}
 use Rattle.rv_machine.proofs.TurnLaws.{loaded}
@@ -16,7 +16,7 @@ load-supplied-requires-clause-register c = register_there _ (needs_at _ _ _ _ (s
 pub returns-in-Load : goal.returns-in-Load
 returns-in-Load c =
     let o = c.args.self.now in
-    let weight = ap (λ p. items_left p o.left (words_due o.board)) c.requires in
+    let weight = ap (λ p. items_at_most p o.left (words_due o.board)) c.requires in
     let given = c.load-supplied.result in
     let item = c.plain.ensures ∙ ap (λ (n : ℕ). plain_item (LoadRecord n given.value given.mark)) c.steps.ensures in
     record {

@@ -4,7 +4,7 @@ use Rattle.run_events.specs.declared.record.EndCause.TheVariants.{Limit}
 use Rattle.hart_model.specs.State.{State}
 use Rattle.machine_model.specs.Board.{at_step, words_before}
 use Rattle.rv_devices.specs.Stands.{Stands, words_due}
-use Rattle.rv_machine.specs.Phase.{items_left}
+use Rattle.rv_machine.specs.Phase.{items_at_most}
 use Rattle.rv_machine.specs.ToCome.{Awaits}
 use Rattle.rv_machine.specs.declared.phase.Phase.TheVariants.{Between}
 use Rattle.rv_machine.proofs.EndLaws.{given_end}
@@ -15,9 +15,9 @@ use Rattle.rv_machine.proofs.machine.Machine.begin.Goals as goal
 pub returns-then-self-eq0 : goal.returns-then-self-eq0
 returns-then-self-eq0 c =
     let o = c.args.self.now in
-    let weight = ap (λ p. items_left p o.left (words_due o.board)) c.requires in
+    let weight = ap (λ p. items_at_most p o.left (words_due o.board)) c.requires in
     let n = c.end.new.self in
-    let after = ap (λ p. items_left p n.left (words_due n.board)) c.end.ensures.over in
+    let after = ap (λ p. items_at_most p n.left (words_due n.board)) c.end.ensures.over in
     record {
       gives = λ items is.
           given_end o n items Limit c.end.result c.end.ensures.item c.end.ensures.over c.end.ensures.same c.end.ensures.hart
@@ -28,7 +28,7 @@ returns-then-self-eq0 c =
 pub returns : goal.returns
 returns c =
     let o = c.args.self.now in
-    let weight = ap (λ p. items_left p o.left (words_due o.board)) c.requires in
+    let weight = ap (λ p. items_at_most p o.left (words_due o.board)) c.requires in
     let one : suc (o.left - 1) ≡ o.left = omega (arith, c.if-self-eq0.false) in
     record {
       gives = λ items is.

@@ -3,7 +3,7 @@ use Rattle.std.proofs.Common.{ℕ, refl, sym, ap, subst, ◌∙◌, ◌∷◌, a
 use Rattle.run_events.specs.declared.record.Record.TheVariants.{Lines as LinesRecord}
 use Rattle.any_machine.specs.Log.{plain_item}
 use Rattle.rv_devices.specs.Stands.{words_due}
-use Rattle.rv_machine.specs.Phase.{items_left}
+use Rattle.rv_machine.specs.Phase.{items_at_most}
 use Rattle.rv_machine.specs.ToCome.{Awaits}
 use Rattle.rv_machine.proofs.MoveLaws.{moves_from}
 use Rattle.rv_machine.proofs.TurnLaws.{unchanged, told}
@@ -12,7 +12,7 @@ use Rattle.rv_machine.proofs.machine.Machine.tell_lines.Goals as goal
 pub returns-then-bits-self : goal.returns-then-bits-self
 returns-then-bits-self c =
     let o = c.args.self.now in
-    let weight = ap (λ p. items_left p o.left (words_due o.board)) c.requires in
+    let weight = ap (λ p. items_at_most p o.left (words_due o.board)) c.requires in
     record {
       gives = λ items is. c.run_on.ensures.gives items (unchanged o.left o.lines o.cpu o.board o.board items c.lines-bits.result c.lines-bits.ensures c.if-bits-self.true (subst (λ p. Awaits p o.left o.lines o.cpu o.board items) c.requires is));
       moves = moves_from c.run_on.result _ _ c.run_on.new.self refl (omega (arith, weight)) c.run_on.ensures.moves;
@@ -21,7 +21,7 @@ returns-then-bits-self c =
 pub returns-else-bits-self : goal.returns-else-bits-self
 returns-else-bits-self c =
     let o = c.args.self.now in
-    let weight = ap (λ p. items_left p o.left (words_due o.board)) c.requires in
+    let weight = ap (λ p. items_at_most p o.left (words_due o.board)) c.requires in
     let item = c.plain.ensures ∙ ap (λ (n : ℕ). plain_item (LinesRecord n c.lines-bits.result)) c.steps.ensures in
     record {
       gives = λ items is.

@@ -2,7 +2,7 @@ use Rattle.std.proofs.Common.{◌≡◌, ◌+◌, ◌-◌, ◌*◌, get_or, drop
 use Rattle.std.proofs.lemmas.List.{at_drop_more}
 use Rattle.format_model.specs.ScriptReading.{value_after, value_of}
 use Rattle.format_model.proofs.ScriptSteps.{value_after-le}
-use Rattle.in_script.proofs.number.value_of.Goals as goal
+use Rattle.decimal_text.proofs.number.value_of.Goals as goal
 
 pub loop-digit-init : goal.loop-digit-init
 unfolding value_of
