@@ -15,7 +15,7 @@ use crate::moves::link_of_word;
 use crate::rings::{Frames, empty_rings};
 use elf_image::Image;
 use finding_tally::Tally;
-use memory_map::NoMemory;
+use memory_map::{NoMemory, SharedByThreads};
 use run_events::{Announcement, Event, Finding, FindingKind, Told, Watcher};
 use rv_decode::Link;
 use std::alloc::Global;
@@ -30,6 +30,8 @@ pub struct Calls {
     unmatched: u64,
     found: Tally,
 }
+
+impl SharedByThreads for Calls {}
 
 impl Model for Calls {
     ghost Value = { Stacks };

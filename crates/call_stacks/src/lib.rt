@@ -4,7 +4,6 @@
 mod calls;
 mod moves;
 mod rings;
-mod shared;
 #[cfg(test)]
 mod tests;
 

@@ -15,7 +15,7 @@ use crate::area::{Area, code_of, is_code};
 use crate::ranges::{count_marks, count_ranges, find_range};
 use elf_image::Image;
 use finding_tally::Tally;
-use memory_map::{NoMemory, RAM_START};
+use memory_map::{NoMemory, RAM_START, SharedByThreads};
 use run_events::{Event, Finding, FindingKind, Watcher};
 use std::alloc::Global;
 use std::marker::Model;
@@ -28,6 +28,8 @@ pub struct Coverage {
     marks: Vec<bool>,
     found: Tally,
 }
+
+impl SharedByThreads for Coverage {}
 
 impl Model for Coverage {
     ghost Value = { Covered };

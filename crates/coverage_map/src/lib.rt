@@ -4,7 +4,6 @@
 mod area;
 mod coverage;
 mod ranges;
-mod shared;
 #[cfg(test)]
 mod tests;
 

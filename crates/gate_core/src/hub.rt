@@ -7,7 +7,7 @@ ghost use Rattle.gate_core.specs.Hub.{IsHub, Gives, approved_at, empty_hub, full
 
 use crate::{Full, Take, Verdict};
 use circular_buffer::HeapCircularBuffer;
-use memory_map::NoMemory;
+use memory_map::{CrossesThreads, NoMemory};
 use run_events::Record;
 use std::alloc::Global;
 use std::marker::Model;
@@ -22,6 +22,8 @@ pub struct Hub {
     verdicts: Vec<Verdict>,
     closed: bool,
 }
+
+impl CrossesThreads for Hub {}
 
 impl Model for Hub {
     ghost use Rattle.gate_core.specs.Hub.{HubState, IsHub, hub_state};

@@ -5,7 +5,6 @@ mod core_law;
 mod full;
 mod hub;
 mod hub_law;
-mod shared;
 mod take;
 #[cfg(test)]
 mod tests;

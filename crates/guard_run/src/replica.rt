@@ -16,7 +16,7 @@ ghost use Rattle.run_events.specs.Record.{IsRecord};
 use analysis_set::{Analysis, AnyAnalysis};
 use elf_image::Image;
 use gate_core::Verdict;
-use memory_map::NoMemory;
+use memory_map::{CrossesThreads, NoMemory};
 use replayer::Replay;
 use run_events::{Diverged, Kind, Record};
 use std::alloc::Global;
@@ -33,6 +33,8 @@ pub struct Replica {
     analysis: AnyAnalysis,
     ghost size: { ram_size_of replay ≡ 1024 * kib_of analysis },
 }
+
+impl CrossesThreads for Replica {}
 
 impl Replica {
     ghost use Rattle.guard_run.specs.Replicas.{IsFresh, analysis_of};
@@ -127,11 +129,4 @@ impl Follower for Replica {
     fn verdict(&self) -> Verdict {
         verdict_of(self.analysis.first(), self.replay.reach())
     }
-}
-
-// A replica may be handed to another thread.
-fn crosses_threads<T: Send>(_value: &T) {}
-
-fn replica_crosses_threads(replica: &Replica) {
-    crosses_threads(replica);
 }

@@ -4,7 +4,6 @@
 mod guard;
 mod lock;
 mod locks;
-mod shared;
 #[cfg(test)]
 mod tests;
 

@@ -21,7 +21,7 @@ use crate::guard::{Guard, least_open};
 use crate::lock::{Lock, holder_of, is_held_by, is_known, place_of, set_holder};
 use elf_image::Image;
 use finding_tally::Tally;
-use memory_map::NoMemory;
+use memory_map::{NoMemory, SharedByThreads};
 use run_events::{Access, Announcement, Event, Finding, FindingKind, Watcher};
 use shadow_state::Shadow;
 use std::alloc::Global;
@@ -38,6 +38,8 @@ pub struct Locks {
     guarded: Shadow,
     found: Tally,
 }
+
+impl SharedByThreads for Locks {}
 
 // So many locks count, and so many ranges.
 const KEPT: usize = 256;

@@ -7,7 +7,7 @@ ghost use Rattle.output_gate.specs.Gate.{Climbs, behind, count_below, empty_gate
 
 use after_edge::{Failed, Sink};
 use circular_buffer::HeapCircularBuffer;
-use memory_map::NoMemory;
+use memory_map::{CrossesThreads, NoMemory};
 use std::alloc::Global;
 use std::marker::Model;
 
@@ -35,6 +35,8 @@ pub struct OutputGate {
     from: Option<u32>,
     failed: bool,
 }
+
+impl CrossesThreads for OutputGate {}
 
 impl Model for OutputGate {
     ghost use Rattle.output_gate.specs.Gate.{GateState, IsGate};

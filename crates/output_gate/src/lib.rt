@@ -2,7 +2,6 @@
 #![tactic(auto)]
 
 mod gate;
-mod shared;
 #[cfg(test)]
 mod tests;
 

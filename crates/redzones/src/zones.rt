@@ -16,7 +16,7 @@ ghost use Rattle.redzones.specs.Zones.{Zones, Stands, make_now, guest_now, use_i
 
 use elf_image::Image;
 use finding_tally::Tally;
-use memory_map::NoMemory;
+use memory_map::{NoMemory, SharedByThreads};
 use run_events::{Access, Announcement, Event, Finding, FindingKind, Watcher};
 use shadow_state::Shadow;
 use std::alloc::Global;
@@ -46,6 +46,8 @@ pub struct Redzones {
     shadow: Shadow,
     found: Tally,
 }
+
+impl SharedByThreads for Redzones {}
 
 impl Model for Redzones {
     ghost use Rattle.std.specs.Prelude.{◌≡◌, ◌*◌, ◌≤◌, length};

@@ -5,6 +5,7 @@ ghost use Rattle.any_machine.specs.Machine.{is_load};
 ghost use Rattle.run_events.specs.Event.{Fits};
 
 use crate::engine::Engine;
+use memory_map::CrossesThreads;
 use run_events::{Event, Need, Supplied, Watcher};
 use rv_memory::Ram;
 use std::marker::Model;
@@ -14,6 +15,8 @@ use std::marker::Model;
 pub struct Cpu {
     engine: Engine,
 }
+
+impl CrossesThreads for Cpu {}
 
 impl Model for Cpu {
     ghost use Rattle.hart_model.specs.State.{State};
@@ -144,11 +147,4 @@ impl Cpu {
     {
         &self.engine.ram
     }
-}
-
-// A hart may be handed to another thread.
-fn crosses_threads<T: Send>(_value: &T) {}
-
-fn cpu_crosses_threads(cpu: &Cpu) {
-    crosses_threads(cpu);
 }

@@ -1,7 +1,6 @@
 //! Marked input: which registers and bytes of RAM hold what came from it, and where that goes wrong.
 #![tactic(auto)]
 
-mod shared;
 mod taint;
 #[cfg(test)]
 mod tests;

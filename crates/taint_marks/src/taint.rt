@@ -19,7 +19,7 @@ ghost use Rattle.taint_marks.specs.Marks.{Marks, Stands, make_now, guest_now, ma
 
 use elf_image::Image;
 use finding_tally::Tally;
-use memory_map::NoMemory;
+use memory_map::{NoMemory, SharedByThreads};
 use run_events::{Access, Announcement, Event, Finding, FindingKind, Watcher};
 use rv_decode::{AtomicOp, CsrOp, Instr, RegOp, decode};
 use shadow_state::Shadow;
@@ -53,6 +53,8 @@ pub struct Taint {
     shadow: Shadow,
     found: Tally,
 }
+
+impl SharedByThreads for Taint {}
 
 impl Model for Taint {
     ghost use Rattle.memory_map.specs.declared.TheConstants.{MOST_RAM_KIB};
