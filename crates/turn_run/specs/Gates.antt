@@ -5,8 +5,9 @@ use Rattle.run_events.specs.Record.{number}
 use Rattle.run_events.specs.declared.item.Item.{Item}
 use Rattle.any_machine.specs.Log.{before_step, bytes_of}
 use Rattle.gate_core.specs.Core.{CoreState}
+use Rattle.gate_core.specs.Follow.{approvals}
 use Rattle.gate_core.specs.Hub.{HubState, approved_at, verdict_at}
-use Rattle.output_gate.specs.Gate.{GateState, behind, with_issue, with_withheld}
+use Rattle.output_gate.specs.Gate.{GateState, behind, count_below, with_issue, with_withheld}
 use Rattle.turn_run.specs.Course.{Course, least_limit, steps_of, bytes_in, stop_of}
 
 -- the bytes of the records that were appended, each with its step
@@ -54,6 +55,10 @@ pub record Gates (c : Course) (core : CoreState) (gate : GateState) : Type 0 whe
   pub sound : gate.failed ≡ false
   pub there : core.released ≤ length (kept gate.from (issued_by c core.appended))
   pub few : length gate.steps ≤ 4096
+
+-- how many of the waiting bytes are of steps that all of these readers approve
+abbrev pub approved_in : HubState → List ℕ → GateState → ℕ
+approved_in hub readers gate = count_below (least_approved (approvals hub.verdicts) readers) gate.steps
 
 -- a gate after the byte of an item was issued to it
 abbrev pub with_byte : GateState → ℕ → Option ℕ → GateState

@@ -1,14 +1,15 @@
 //! The parts of a run, and a turn of each of them.
-ghost use Rattle.std.specs.Prelude.{◌≡◌, ◌-◌, ◌<◌, ◌≤◌, ◌&&◌, IsTrue, false, length, is_some, slice_index, vec_len, IfOk, IfSome, OnOk, OnErr};
+ghost use Rattle.std.specs.Prelude.{◌≡◌, ◌-◌, ◌<◌, ◌≤◌, ◌&&◌, IsTrue, false, length, is_some, slice_index, take, vec_len, IfOk, IfSome, OnOk, OnErr};
 ghost use Rattle.std.specs.List.{All};
+ghost use Rattle.after_edge.specs.Sink.{Writes, WritesPart};
 ghost use Rattle.run_events.specs.Record.{number};
 ghost use Rattle.gate_core.specs.Core.{CoreState};
 ghost use Rattle.gate_core.specs.Follow.{approvals};
 ghost use Rattle.gate_core.specs.Hub.{approved_at, is_cap};
-ghost use Rattle.output_gate.specs.Gate.{is_full};
+ghost use Rattle.output_gate.specs.Gate.{is_full, with_failure, with_release};
 ghost use Rattle.turn_run.specs.Course.{Course, IsMarked};
 ghost use Rattle.turn_run.specs.Following.{AreSame};
-ghost use Rattle.turn_run.specs.Gates.{least_approved, refusals, with_item, withheld_from};
+ghost use Rattle.turn_run.specs.Gates.{approved_in, least_approved, refusals, with_item, withheld_from};
 ghost use Rattle.turn_run.specs.Openings.{IsCourseOf, IsOpened, followers_of};
 ghost use Rattle.turn_run.specs.Runs.{HasBroken, HasReleased, IsAt, IsBesides, IsFollowed, IsFollowedRun, IsSoundRun, Lessens, LessensRead, Reads, Records};
 
@@ -132,9 +133,8 @@ impl<M: Recorder, F: Follower> Parts<M, F> {
         ensures made { AreSame F.following (followers_of self.old) (followers_of self.new) }
     {
         let required: &[u32] = &self.required;
-        let below = least_approved(&self.hub, required);
-        match self.gate.release(below, out) {
-            Ok(_) => {}
+        match put_approved(&mut self.gate, &self.hub, required, out) {
+            Ok(()) => {}
             Err(fault) => return Err(fault),
         }
         withhold_refused(&mut self.gate, &self.hub, required);
@@ -162,6 +162,28 @@ fn issue(gate: &mut OutputGate, item: Item)
             Ok(()) => {}
             Err(_) => unreachable!(),
         }
+    }
+}
+
+// Puts the waiting bytes whose steps all of these readers approve.
+fn put_approved<O: Sink>(
+    gate: &mut OutputGate,
+    hub: &Hub,
+    required: &[u32],
+    out: &mut O,
+) -> Result<(), SinkFault>
+    requires there { All (λ reader. reader < length hub.now.taken) required.now }
+    requires sound { gate.old.failed ≡ false }
+    ensures ok { OnOk result (Writes O.told out.old out.new (take (approved_in hub.now required.now gate.old) gate.old.bytes)) }
+    ensures err { OnErr result (WritesPart O.told out.old out.new (take (approved_in hub.now required.now gate.old) gate.old.bytes)) }
+    ensures some { OnErr result (1 ≤ approved_in hub.now required.now gate.old) }
+    ensures released { OnOk result (gate.new ≡ with_release gate.old (approved_in hub.now required.now gate.old)) }
+    ensures failed { OnErr result (gate.new ≡ with_failure gate.old (approved_in hub.now required.now gate.old)) }
+{
+    let below = least_approved(hub, required);
+    match gate.release(below, out) {
+        Ok(_) => Ok(()),
+        Err(fault) => Err(fault),
     }
 }
 

@@ -1,13 +1,13 @@
 //! A run by turns, from its first turn to its close.
-ghost use Rattle.std.specs.Prelude.{◌⊎◌, ◌<◌, length, OnOk, OnErr};
+ghost use Rattle.std.specs.Prelude.{length, OnOk, OnErr};
 ghost use Rattle.gate_core.specs.Core.{CoreState};
 ghost use Rattle.run_settings.specs.Patterns.{IsLetter, IsPattern};
 ghost use Rattle.turn_run.specs.Course.{Course};
 ghost use Rattle.turn_run.specs.Following.{AreSame};
 ghost use Rattle.turn_run.specs.Closings.{HasEnded, HasStopped, IsReadOut};
 ghost use Rattle.turn_run.specs.Openings.{IsOpened, IsOpenedRun, followers_of};
-ghost use Rattle.turn_run.specs.Periods.{Moves};
-ghost use Rattle.turn_run.specs.Runs.{HasCome, HasCrashed, IsAt, IsSoundRun, turns_left};
+ghost use Rattle.turn_run.specs.Periods.{HaveMoved, Moves};
+ghost use Rattle.turn_run.specs.Runs.{HasCome, HasCrashed, IsAt, IsSoundRun};
 
 use crate::{Follower, Parts};
 use after_edge::Sink;
@@ -71,7 +71,7 @@ fn take_all_turns<M: Recorder, F: Follower, O: Sink>(
     }
 }
 
-// Takes a turn for each letter of the pattern. In a run that is not read out some turn moves something.
+// Takes a turn for each letter of the pattern. Where nothing has moved then, there was nothing to do in any of them.
 fn take_period<M: Recorder, F: Follower, O: Sink>(
     parts: &mut Parts<M, F>,
     turns: &[Letter],
@@ -82,8 +82,7 @@ fn take_period<M: Recorder, F: Follower, O: Sink>(
     ensures come { OnOk result ((c : Course) (core : CoreState)
         → IsAt M.recording F.following c core parts.old
         → HasCome M.recording F.following c core.released parts.new O.told out.old out.new) }
-    ensures falls { OnOk result ((turns_left M.recording F.following parts.new
-        < turns_left M.recording F.following parts.old) ⊎ IsReadOut parts.old) }
+    ensures moved { OnOk result (HaveMoved M.recording F.following turns.now parts.old parts.new) }
     ensures err { OnErr result ((c : Course) (core : CoreState)
         → IsAt M.recording F.following c core parts.old
         → HasCrashed M.recording F.following c core.released parts.new O.told out.old out.new) }

@@ -1,6 +1,8 @@
-use Rattle.std.proofs.Common.{◌∙◌, refl}
+use Rattle.std.proofs.Common.{◌≡◌, inl, inr, length, ap, subst, ◌∙◌, refl, arith}
+use Rattle.gate_core.specs.Hub.{HubState}
+use Rattle.run_settings.specs.Patterns.{IsPattern}
 use Rattle.turn_run.proofs.EndLaws.{ends}
-use Rattle.turn_run.proofs.PeriodLaws.{come_on, crash_on, crashes}
+use Rattle.turn_run.proofs.PeriodLaws.{come_on, crash_on, crashes, falls}
 use Rattle.turn_run.proofs.turns.take_all_turns.Goals as goal
 
 pub loop-parts-preserved : goal.loop-parts-preserved
@@ -35,3 +37,14 @@ returns-in-Err-release-clause-err g c = λ of opened.
     let now = c.loop-parts.invariant.come of opened in
     crash_on g.M.Recorder.recording g.F.Follower.following of g.O.Sink.told 0 c.loop-parts.parts c.release.new.self c.args.out.now c.loop-parts.out c.release.new.out now
     (crashes g.M.Recorder.recording g.F.Follower.following of g.O.Sink.told now.next c.loop-parts.parts c.release.new.self c.loop-parts.out c.release.new.out now.at (c.in-Err-release.ensures.err of now.next now.at))
+
+pub loop-parts-smaller : goal.loop-parts-smaller
+loop-parts-smaller g c =
+    let run = c.requires.opened in
+    let fs = (c.loop-parts.invariant.come run.of run.opened).at.follows in
+    let readers : length c.args.parts.now.followers.items ≡ length c.loop-parts.parts.hub.taken = omega (arith, run.opened.follows.count, fs.sound.taken, ap (λ (h : HubState). length h.taken) fs.stands) in
+    let pattern = subst (λ n. IsPattern n c.args.turns.now) readers c.requires.pattern in
+    elim (falls g.M.Recorder.recording g.F.Follower.following c.loop-parts.parts c.take_period.new.parts c.args.turns.now pattern c.in-Ok.ensures.moved) [
+      | inl less ↦ less
+      | inr out ↦ absurd (c.loop-parts-test.ensures.no refl out)
+    ]

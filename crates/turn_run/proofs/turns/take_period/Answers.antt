@@ -1,8 +1,5 @@
-use Rattle.std.proofs.Common.{◌∙◌, ◌≡◌, length, subst, ap, arith}
-use Rattle.std.proofs.lemmas.List.{take_all}
-use Rattle.gate_core.specs.Hub.{HubState}
-use Rattle.run_settings.specs.Patterns.{IsPattern}
-use Rattle.turn_run.proofs.PeriodLaws.{HasMoved, come_on, crash_on, falls, move_on}
+use Rattle.std.proofs.Common.{◌∙◌, arith}
+use Rattle.turn_run.proofs.PeriodLaws.{come_on, crash_on, move_on, moved_all}
 use Rattle.turn_run.proofs.turns.take_period.Goals as goal
 
 pub take_turn-requires-clause-run : goal.take_turn-requires-clause-run
@@ -28,10 +25,5 @@ loop-letter-preserved g c = record {
 pub returns-in-Err-clause-made : goal.returns-in-Err-clause-made
 returns-in-Err-clause-made g c = c.take_turn.ensures.made ∙ c.loop-letter.invariant.made
 
-pub returns-clause-falls : goal.returns-clause-falls
-returns-clause-falls g c =
-    let run = c.requires.run in
-    let fs = run.at.follows in
-    let readers : length c.args.parts.now.followers.items ≡ length c.args.parts.now.hub.taken = omega (arith, fs.count, fs.sound.taken, ap (λ (h : HubState). length h.taken) fs.stands) in
-    falls g.M.Recorder.recording g.F.Follower.following c.args.parts.now c.loop-letter.parts c.args.turns.now (subst (λ n. IsPattern n c.args.turns.now) readers c.requires.pattern)
-    (subst (HasMoved g.M.Recorder.recording g.F.Follower.following c.args.parts.now c.loop-letter.parts) (take_all c.loop-letter.letter-index c.args.turns.now (omega arith)) c.loop-letter.invariant.moved)
+pub returns-clause-moved : goal.returns-clause-moved
+returns-clause-moved g c = moved_all g.M.Recorder.recording g.F.Follower.following c.args.parts.now c.loop-letter.parts c.args.turns.now c.loop-letter.letter-index (omega arith) c.loop-letter.invariant.moved
