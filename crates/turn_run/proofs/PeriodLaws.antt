@@ -27,7 +27,7 @@ use Rattle.turn_run.specs.Course.{Course, bytes_in, log_of, output_of, plan_of}
 use Rattle.turn_run.specs.Endings.{end_in}
 use Rattle.turn_run.specs.Gates.{Gates}
 use Rattle.turn_run.specs.Closings.{IsReadOut}
-use Rattle.turn_run.specs.Periods.{HaveMoved, IsIdle, IsStill, Moves}
+use Rattle.turn_run.specs.Periods.{HaveMoved, IsIdle, Moves}
 use Rattle.turn_run.specs.Replicas.{Follows, after_turn}
 use Rattle.turn_run.specs.Runs.{AllRead, AllTaken, HasBroken, HasCome, HasCrashed, HasReleased, IsAt, IsBesides, Lessens, LessensRead, Reads, Records, bytes_between, turns_left, unread, with_released}
 use Rattle.turn_run.specs.Sources.{StillToCome, items_left}

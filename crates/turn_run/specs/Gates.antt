@@ -1,13 +1,14 @@
 -- The gate of a run, where the core stands.
 use Rattle.memory_map.specs.declared.TheConstants.{MOST_STEPS}
-use Rattle.std.specs.Prelude.{◌≡◌, ℕ, ◌-◌, ◌<◌, ◌≤◌, false, if◌then◌else◌, List, [], ◌∷◌, length, take, drop, slice_index, Option, Some, None}
+use Rattle.std.specs.Prelude.{◌≡◌, ℕ, ◌-◌, ◌<◌, ◌≤◌, Bool, false, not, ◌&&◌, if◌then◌else◌, List, [], ◌∷◌, length, take, drop, slice_index, Option, Some, None, is_some}
+use Rattle.run_events.specs.declared.record.Record.{Record}
 use Rattle.run_events.specs.Record.{number}
 use Rattle.run_events.specs.declared.item.Item.{Item}
 use Rattle.any_machine.specs.Log.{before_step, bytes_of}
 use Rattle.gate_core.specs.Core.{CoreState}
 use Rattle.gate_core.specs.Follow.{approvals}
-use Rattle.gate_core.specs.Hub.{HubState, approved_at, verdict_at}
-use Rattle.output_gate.specs.Gate.{GateState, behind, count_below, with_issue, with_withheld}
+use Rattle.gate_core.specs.Hub.{HubState, approved_at, full_of, verdict_at, with_append}
+use Rattle.output_gate.specs.Gate.{GateState, behind, count_below, is_full, with_issue, with_withheld}
 use Rattle.turn_run.specs.Course.{Course, least_limit, steps_of, bytes_in, stop_of}
 
 -- the bytes of the records that were appended, each with its step
@@ -67,6 +68,17 @@ with_byte gate step (Some byte) = with_issue gate step byte
 
 abbrev pub with_item : GateState → Item → GateState
 with_item gate i = with_byte gate (number i.item - 1) i.byte
+
+-- the log has room for a record more, and the gate for the byte of this item, if it has one
+abbrev pub has_room : HubState → GateState → Item → Bool
+has_room hub gate i = not (is_some (full_of hub)) && not (is_some i.byte && is_full gate)
+
+-- after the record of an item was appended, and after its byte was issued, if they were
+abbrev pub with_append_if : Bool → HubState → Record → HubState
+with_append_if placed hub item = if placed then with_append hub item else hub
+
+abbrev pub with_item_if : Bool → GateState → Item → GateState
+with_item_if placed gate i = if placed then with_item gate i else gate
 
 -- from which steps on those of them refuse that refuse anything
 abbrev pub refusals : HubState → List ℕ → List ℕ

@@ -1,15 +1,15 @@
 //! The parts of a run, and a turn of each of them.
-ghost use Rattle.std.specs.Prelude.{◌≡◌, ◌-◌, ◌<◌, ◌≤◌, ◌&&◌, IsTrue, false, length, is_some, slice_index, take, vec_len, IfOk, IfSome, OnOk, OnErr};
+ghost use Rattle.std.specs.Prelude.{◌≡◌, ◌-◌, ◌<◌, ◌≤◌, ◌^◌, ◌&&◌, IsTrue, false, length, is_some, slice_index, take, vec_len, IfOk, IfSome, OnOk, OnErr};
 ghost use Rattle.std.specs.List.{All};
 ghost use Rattle.after_edge.specs.Sink.{Writes, WritesPart};
-ghost use Rattle.run_events.specs.Record.{number};
+ghost use Rattle.run_events.specs.Record.{IsRecord, number};
 ghost use Rattle.gate_core.specs.Core.{CoreState};
 ghost use Rattle.gate_core.specs.Follow.{approvals};
 ghost use Rattle.gate_core.specs.Hub.{approved_at, is_cap};
 ghost use Rattle.output_gate.specs.Gate.{is_full, with_failure, with_release};
 ghost use Rattle.turn_run.specs.Course.{Course, IsMarked};
 ghost use Rattle.turn_run.specs.Following.{AreSame};
-ghost use Rattle.turn_run.specs.Gates.{approved_in, least_approved, refusals, with_item, withheld_from};
+ghost use Rattle.turn_run.specs.Gates.{approved_in, has_room, least_approved, refusals, with_append_if, with_item, with_item_if, withheld_from};
 ghost use Rattle.turn_run.specs.Openings.{IsCourseOf, IsOpened, followers_of};
 ghost use Rattle.turn_run.specs.Runs.{HasBroken, HasReleased, IsAt, IsBesides, IsFollowed, IsFollowedRun, IsSoundRun, Lessens, LessensRead, Reads, Records};
 
@@ -95,18 +95,10 @@ impl<M: Recorder, F: Follower> Parts<M, F> {
             self.hub.close();
             return Recorded::Closed;
         };
-        if is_crowded(&self.gate, item) {
+        if !place(&mut self.hub, &mut self.gate, item) {
             self.source.put_back(item);
             return Recorded::Waits;
         }
-        match self.hub.append(item.item) {
-            Ok(()) => {}
-            Err(_) => {
-                self.source.put_back(item);
-                return Recorded::Waits;
-            }
-        }
-        issue(&mut self.gate, item);
         self.end = Ending::of(item.item);
         Recorded::Appended
     }
@@ -139,6 +131,31 @@ impl<M: Recorder, F: Follower> Parts<M, F> {
         }
         withhold_refused(&mut self.gate, &self.hub, required);
         Ok(())
+    }
+}
+
+// Appends the record of an item to the log, and lets its byte wait in the gate, where both have room; else neither is
+// changed.
+fn place(hub: &mut Hub, gate: &mut OutputGate, item: Item) -> bool
+    requires is_open { hub.old.closed ≡ false }
+    requires fits { hub.old.appended < 2 ^ 62 }
+    requires item { IsRecord item.item }
+    requires sound { gate.old.failed ≡ false }
+    requires rises { IfSome item.byte (λ _. gate.old.next ≤ number item.item - 1) }
+    requires marks { IsMarked item }
+    ensures room { result ≡ has_room hub.old gate.old item }
+    ensures log { hub.new ≡ with_append_if result hub.old item.item }
+    ensures gate { gate.new ≡ with_item_if result gate.old item }
+{
+    if is_crowded(gate, item) {
+        return false;
+    }
+    match hub.append(item.item) {
+        Ok(()) => {
+            issue(gate, item);
+            true
+        }
+        Err(_) => false,
     }
 }
 
