@@ -8,7 +8,7 @@ use Rattle.any_machine.specs.Log.{before_step, bytes_of}
 use Rattle.gate_core.specs.Core.{CoreState}
 use Rattle.gate_core.specs.Follow.{approvals}
 use Rattle.gate_core.specs.Hub.{HubState, approved_at, full_of, verdict_at, with_append}
-use Rattle.output_gate.specs.Gate.{GateState, behind, count_below, is_full, with_issue, with_withheld}
+use Rattle.output_gate.specs.Gate.{GateState, behind, count_below, is_full, with_issue, with_release, with_withheld}
 use Rattle.turn_run.specs.Course.{Course, least_limit, steps_of, bytes_in, stop_of}
 
 -- the bytes of the records that were appended, each with its step
@@ -60,6 +60,10 @@ pub record Gates (c : Course) (core : CoreState) (gate : GateState) : Type 0 whe
 -- how many of the waiting bytes are of steps that all of these readers approve
 abbrev pub approved_in : HubState → List ℕ → GateState → ℕ
 approved_in hub readers gate = count_below (least_approved (approvals hub.verdicts) readers) gate.steps
+
+-- a gate after these were put
+abbrev pub after_put : HubState → List ℕ → GateState → GateState
+after_put hub readers gate = with_release gate (approved_in hub readers gate)
 
 -- a gate after the byte of an item was issued to it
 abbrev pub with_byte : GateState → ℕ → Option ℕ → GateState

@@ -6,10 +6,10 @@ ghost use Rattle.run_events.specs.Record.{IsRecord, number};
 ghost use Rattle.gate_core.specs.Core.{CoreState};
 ghost use Rattle.gate_core.specs.Follow.{approvals};
 ghost use Rattle.gate_core.specs.Hub.{approved_at, is_cap};
-ghost use Rattle.output_gate.specs.Gate.{is_full, with_failure, with_release};
+ghost use Rattle.output_gate.specs.Gate.{is_full, with_failure};
 ghost use Rattle.turn_run.specs.Course.{Course, IsMarked};
 ghost use Rattle.turn_run.specs.Following.{AreSame};
-ghost use Rattle.turn_run.specs.Gates.{approved_in, has_room, least_approved, refusals, with_append_if, with_item, with_item_if, withheld_from};
+ghost use Rattle.turn_run.specs.Gates.{after_put, approved_in, has_room, least_approved, refusals, with_append_if, with_item, with_item_if, withheld_from};
 ghost use Rattle.turn_run.specs.Openings.{IsCourseOf, IsOpened, followers_of};
 ghost use Rattle.turn_run.specs.Runs.{HasBroken, HasReleased, IsAt, IsBesides, IsFollowed, IsFollowedRun, IsSoundRun, Lessens, LessensRead, Reads, Records};
 
@@ -124,13 +124,10 @@ impl<M: Recorder, F: Follower> Parts<M, F> {
         ensures err { OnErr result ((c : Course) (core : CoreState) → IsAt M.recording F.following c core self.old → HasBroken M.recording F.following c core self.new O.told out.old out.new) }
         ensures made { AreSame F.following (followers_of self.old) (followers_of self.new) }
     {
-        let required: &[u32] = &self.required;
-        match put_approved(&mut self.gate, &self.hub, required, out) {
-            Ok(()) => {}
-            Err(fault) => return Err(fault),
+        match let_out(&mut self.gate, &self.hub, &self.required, out) {
+            Ok(()) => Ok(()),
+            Err(fault) => Err(fault),
         }
-        withhold_refused(&mut self.gate, &self.hub, required);
-        Ok(())
     }
 }
 
@@ -182,8 +179,9 @@ fn issue(gate: &mut OutputGate, item: Item)
     }
 }
 
-// Puts the waiting bytes whose steps all of these readers approve.
-fn put_approved<O: Sink>(
+// Puts the waiting bytes whose steps all of these readers approve, and then withholds all from each step on that one of
+// them refuses.
+fn let_out<O: Sink>(
     gate: &mut OutputGate,
     hub: &Hub,
     required: &[u32],
@@ -191,17 +189,20 @@ fn put_approved<O: Sink>(
 ) -> Result<(), SinkFault>
     requires there { All (λ reader. reader < length hub.now.taken) required.now }
     requires sound { gate.old.failed ≡ false }
-    ensures ok { OnOk result (Writes O.told out.old out.new (take (approved_in hub.now required.now gate.old) gate.old.bytes)) }
-    ensures err { OnErr result (WritesPart O.told out.old out.new (take (approved_in hub.now required.now gate.old) gate.old.bytes)) }
+    requires passed { All (λ reader. (after_put hub.now required.now gate.old).passed ≤ approved_at hub.now reader) required.now }
+    ensures put { OnOk result (Writes O.told out.old out.new (take (approved_in hub.now required.now gate.old) gate.old.bytes)) }
+    ensures part { OnErr result (WritesPart O.told out.old out.new (take (approved_in hub.now required.now gate.old) gate.old.bytes)) }
     ensures some { OnErr result (1 ≤ approved_in hub.now required.now gate.old) }
-    ensures released { OnOk result (gate.new ≡ with_release gate.old (approved_in hub.now required.now gate.old)) }
+    ensures withheld { OnOk result (gate.new ≡ withheld_from (refusals hub.now required.now) (after_put hub.now required.now gate.old)) }
     ensures failed { OnErr result (gate.new ≡ with_failure gate.old (approved_in hub.now required.now gate.old)) }
 {
     let below = least_approved(hub, required);
     match gate.release(below, out) {
-        Ok(_) => Ok(()),
-        Err(fault) => Err(fault),
+        Ok(_) => {}
+        Err(fault) => return Err(fault),
     }
+    withhold_refused(gate, hub, required);
+    Ok(())
 }
 
 // Below which step all of these readers approve; where there are none, all.
