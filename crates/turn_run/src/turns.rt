@@ -8,6 +8,7 @@ ghost use Rattle.turn_run.specs.Closings.{HasEnded, HasStopped, IsReadOut};
 ghost use Rattle.turn_run.specs.Openings.{IsOpened, IsOpenedRun, followers_of};
 ghost use Rattle.turn_run.specs.Periods.{HaveMoved, Moves};
 ghost use Rattle.turn_run.specs.Runs.{HasCome, HasCrashed, IsAt, IsSoundRun};
+ghost use Rattle.turn_run.specs.Turns.{AreTurns, IsTurn};
 
 use crate::{Follower, Parts};
 use after_edge::Sink;
@@ -83,6 +84,7 @@ fn take_period<M: Recorder, F: Follower, O: Sink>(
         → IsAt M.recording F.following c core parts.old
         → HasCome M.recording F.following c core.released parts.new O.told out.old out.new) }
     ensures moved { OnOk result (HaveMoved M.recording F.following turns.now parts.old parts.new) }
+    ensures turns { OnOk result (AreTurns M.recording F.following O.told turns.now parts.old parts.new out.old out.new) }
     ensures err { OnErr result ((c : Course) (core : CoreState)
         → IsAt M.recording F.following c core parts.old
         → HasCrashed M.recording F.following c core.released parts.new O.told out.old out.new) }
@@ -109,6 +111,7 @@ fn take_turn<M: Recorder, F: Follower, O: Sink>(
         → IsAt M.recording F.following c core parts.old
         → HasCome M.recording F.following c core.released parts.new O.told out.old out.new) }
     ensures moves { OnOk result (Moves M.recording F.following letter parts.old parts.new) }
+    ensures turn { OnOk result (IsTurn M.recording F.following O.told letter parts.old parts.new out.old out.new) }
     ensures err { OnErr result ((c : Course) (core : CoreState)
         → IsAt M.recording F.following c core parts.old
         → HasCrashed M.recording F.following c core.released parts.new O.told out.old out.new) }
