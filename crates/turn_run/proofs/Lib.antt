@@ -2,7 +2,7 @@ pub mod AppendLaws
 pub mod ClosingLaws
 pub mod CourseLaws
 pub mod EndLaws
-pub mod GoLaws
+pub mod OrderLaws
 pub mod IssueLaws
 pub mod LeastLaws
 pub mod ListLaws

@@ -1,7 +1,7 @@
 use Rattle.std.proofs.Common.{◌∙◌, subst, arith}
 use Rattle.std.proofs.lemmas.List.{take_all}
 use Rattle.turn_run.specs.Turns.{AreTurns}
-use Rattle.turn_run.proofs.GoLaws.{turns_on}
+use Rattle.turn_run.proofs.OrderLaws.{fails_on, turns_on}
 use Rattle.turn_run.proofs.PeriodLaws.{come_on, crash_on, move_on, moved_all}
 use Rattle.turn_run.proofs.turns.take_period.Goals as goal
 
@@ -34,3 +34,6 @@ returns-clause-moved g c = moved_all g.M.Recorder.recording g.F.Follower.followi
 
 pub returns-clause-turns : goal.returns-clause-turns
 returns-clause-turns g c = subst (λ letters. AreTurns g.M.Recorder.recording g.F.Follower.following g.O.Sink.told letters c.args.parts.now c.loop-letter.parts c.args.out.now c.loop-letter.out) (take_all c.loop-letter.letter-index c.args.turns.now (omega arith)) c.loop-letter.invariant.turns
+
+pub returns-in-Err-clause-fails : goal.returns-in-Err-clause-fails
+returns-in-Err-clause-fails g c = fails_on g.M.Recorder.recording g.F.Follower.following g.O.Sink.told c.args.turns.now c.loop-letter.letter-index _ c.loop-letter-test.true c.args.parts.now c.loop-letter.parts c.take_turn.new.parts c.args.out.now c.loop-letter.out c.take_turn.new.out c.loop-letter.invariant.turns c.in-Err.ensures.fails

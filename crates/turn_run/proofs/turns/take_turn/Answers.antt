@@ -54,3 +54,6 @@ returns-in-Read-clause-turn g c =
 pub returns-in-Ok-clause-turn : goal.returns-in-Ok-clause-turn
 returns-in-Ok-clause-turn g c =
     subst (λ turn. IsTurn g.M.Recorder.recording g.F.Follower.following g.O.Sink.told turn c.args.parts.now c.release.new.self c.args.out.now c.release.new.out) (sym c.in-Release.is) c.in-Ok.ensures.ok
+
+pub returns-in-Err-clause-fails : goal.returns-in-Err-clause-fails
+returns-in-Err-clause-fails g c = (c.in-Release.is, c.in-Err.ensures.err)
