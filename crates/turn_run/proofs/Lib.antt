@@ -2,12 +2,12 @@ pub mod AppendLaws
 pub mod ClosingLaws
 pub mod CourseLaws
 pub mod EndLaws
-pub mod OrderLaws
 pub mod IssueLaws
 pub mod LeastLaws
 pub mod ListLaws
 pub mod MakeLaws
 pub mod OpeningLaws
+pub mod OrderLaws
 pub mod PartLaws
 pub mod PeriodLaws
 pub mod ReadLaws
