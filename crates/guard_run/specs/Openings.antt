@@ -4,10 +4,12 @@ use Rattle.after_edge.specs.Fault.{Rose}
 use Rattle.after_edge.specs.Sink.{Telling, Adds, Writes}
 use Rattle.any_machine.specs.Log.{before_step, bytes_of, items}
 use Rattle.job_model.specs.Job.{Job, finished, released_bytes, stop}
+use Rattle.run_settings.specs.declared.letter.Letter.{Letter}
 use Rattle.rv_machine.specs.ToCome.{recording}
 use Rattle.turn_run.specs.Closings as turns
 use Rattle.turn_run.specs.Openings as before
 use Rattle.turn_run.specs.Runs.{HasFailed}
+use Rattle.turn_run.specs.Turns as order
 use Rattle.guard_run.specs.declared.parts.Parts.{Parts}
 use Rattle.guard_run.specs.declared.replica.Replica.{Replica}
 use Rattle.guard_run.specs.Jobs.{ArePlaces, IsRunnable, course_of, makes_of}
@@ -69,3 +71,11 @@ pub record HasStopped {S : Type 0} (job : Job) (parts : Parts) (sink : Telling S
   pub stopped : IsStopped job count put parts
   pub added : Adds sink.holds old new (take put (released_in job count))
   pub rose : Rose (sink.faults old) (sink.faults new)
+
+-- the turns of the run were those of this pattern, so many times, and then a last turn of the gate
+abbrev pub TakesTurns : {S : Type 0} → Telling S → List Letter → Parts → Parts → S → S → Type 0
+TakesTurns sink turns before after old new = order.TakesTurns recording replicas_follow sink turns before.run after.run old new
+
+-- or they were those of the pattern up to a turn of the gate in which a put failed, where the log was closed
+abbrev pub StopsBy : {S : Type 0} → Telling S → List Letter → Parts → Parts → S → S → Type 0
+StopsBy sink turns before after old new = order.StopsBy recording replicas_follow sink turns before.run after.run old new

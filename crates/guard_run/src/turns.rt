@@ -1,7 +1,7 @@
 //! The run of a job by turns.
 ghost use Rattle.std.specs.Prelude.{ℕ, length, OnOk, OnErr};
 ghost use Rattle.guard_run.specs.Closings.{IsCutRun, IsWholeRun};
-ghost use Rattle.guard_run.specs.Openings.{HasEnded, HasStopped, IsEnded, IsOpened, IsOpenedRun, IsReadOut, IsStopped, replicas_in};
+ghost use Rattle.guard_run.specs.Openings.{HasEnded, HasStopped, IsEnded, IsOpened, IsOpenedRun, IsReadOut, IsStopped, StopsBy, TakesTurns, replicas_in};
 ghost use Rattle.job_model.specs.Job.{Job};
 ghost use Rattle.run_settings.specs.Patterns.{IsPattern};
 
@@ -23,6 +23,8 @@ pub fn run_turns<O: Sink>(parts: &mut Parts, turns: &[Letter], out: &mut O) -> R
     ensures err { OnErr result ((job : Job)
         → IsOpened job parts.old
         → HasStopped job parts.new O.told out.old out.new) }
+    ensures turns { OnOk result (TakesTurns O.told turns.now parts.old parts.new out.old out.new) }
+    ensures stops { OnErr result (StopsBy O.told turns.now parts.old parts.new out.old out.new) }
 {
     match turn_run::run_turns(&mut parts.run, turns, out) {
         Ok(()) => Ok(()),

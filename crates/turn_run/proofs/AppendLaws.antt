@@ -1,11 +1,11 @@
 -- A turn of the recorder, where the core stands.
 use Rattle.std.proofs.Common.{◌≡◌, inl, inr, ℕ, ◌+◌, ◌-◌, ◌*◌, ◌<◌, ◌≤◌, Bool, true, false, cond, List, [], ◌∷◌, ◌++◌, length, take, drop, Option, Some, None, refl, sym, ap, subst, ◌∙◌, arith}
-use Rattle.std.specs.Prelude.{◌&&◌, is_some, IfSome, map, slice_index_or}
+use Rattle.std.specs.Prelude.{◌&&◌, not, is_some, IfSome, map, slice_index_or}
 use Rattle.std.specs.List.{sum_by}
 use Rattle.std.proofs.lemmas.List.Sums.{sum_by-cons}
 use Rattle.std.proofs.lemmas.Nat.{mul-le}
 use Rattle.std.proofs.lemmas.List.{reverse-append, length_push}
-use Rattle.std.proofs.lemmas.Bool.{and_parts, eqb-true}
+use Rattle.std.proofs.lemmas.Bool.{and_parts, eqb-true, not-false, not-true}
 use Rattle.run_events.specs.declared.item.Item.{Item}
 use Rattle.run_events.specs.Record.{number}
 use Rattle.gate_core.specs.declared.full.Full.{Full}
@@ -14,7 +14,7 @@ use Rattle.gate_core.specs.Core.{CoreState, Append, Close, IsSound}
 use Rattle.gate_core.specs.Hub.{HubState, full_of, no_verdict, with_append, with_close}
 use Rattle.gate_core.specs.Follow.{hub_of}
 use Rattle.gate_core.proofs.CoreLaws.{event_IsSound}
-use Rattle.gate_core.proofs.FollowLaws.{appends, refuses, named}
+use Rattle.gate_core.proofs.FollowLaws.{appends, named}
 use Rattle.output_gate.specs.Gate.{GateState, is_full, is_withheld, with_issue}
 use Rattle.turn_run.specs.declared.ending.Ending.{Ending}
 use Rattle.turn_run.specs.declared.parts.Parts.{Parts}
@@ -23,9 +23,9 @@ use Rattle.any_machine.specs.Recording.{Recording}
 use Rattle.turn_run.specs.Following.{Following}
 use Rattle.turn_run.specs.Course.{Course, IsCourse, log_of, plan_of}
 use Rattle.turn_run.specs.Endings.{end_at, end_back, end_in}
-use Rattle.turn_run.specs.Gates.{Gates, with_byte, with_item}
+use Rattle.turn_run.specs.Gates.{Gates, has_room, with_byte, with_item}
 use Rattle.turn_run.specs.Replicas.{Follows}
-use Rattle.turn_run.specs.Runs.{HasAppended, HasClosed, HasWaited, IsAt, next_has_byte, unread}
+use Rattle.turn_run.specs.Runs.{HasAppended, HasClosed, HasNoRoom, HasWaited, IsAt, next_has_byte, unread}
 use Rattle.turn_run.specs.Sources.{StillToCome}
 use Rattle.turn_run.proofs.CourseLaws.{IsNext, is_plan, length_log, next_item, no_item_left}
 use Rattle.turn_run.proofs.IssueLaws.{after_item, rises_next}
@@ -45,6 +45,11 @@ follows_as f c core hub followers fs appended closed hub' stands sound =
       each = fs.each;
       posted = λ reader follower at. ap (λ l. slice_index_or l reader no_verdict) posted ∙ fs.posted reader follower at;
     }
+
+-- where there is room, no reader stands a whole log behind, and the gate takes the byte
+rooms : (o : Option Full) (crowded : Bool) → true ≡ (not (is_some o) && not crowded) → (o ≡ None) × (crowded ≡ false)
+rooms None crowded room = (refl, not-true crowded (sym room))
+rooms (Some full) crowded room = absurd (let clash : true ≡ false = room in cc)
 
 module _ {M F : Type 0} (r : Recording M) (f : Following F) (c : Course) (core : CoreState) (parts : Parts M F) (at : IsAt r f c core parts) where
   abbrev is : IsCourse c
@@ -102,19 +107,20 @@ module _ {M F : Type 0} (r : Recording M) (f : Following F) (c : Course) (core :
     full_none : full_of parts.hub ≡ None → full_of (hub_of (plan_of c) core parts.hub.verdicts) ≡ None
     full_none none = ap full_of (sym at.follows.stands) ∙ none
 
-    pub after_append : (source : Source M) (hub : HubState) (gate : GateState) (end : Option Ending) → parts.hub.closed ≡ false → full_of parts.hub ≡ None → (is_some item.byte && is_full parts.gate) ≡ false
+    pub after_append : (source : Source M) (hub : HubState) (gate : GateState) (end : Option Ending) → parts.hub.closed ≡ false → true ≡ has_room parts.hub parts.gate item
         → hub ≡ with_append parts.hub item.item → gate ≡ with_item parts.gate item → end ≡ end_at item.item → StillToCome r source rest
         → HasAppended r f c core (record { source = source; hub = hub; followers = parts.followers; required = parts.required; gate = gate; end = end })
-    after_append source hub gate end opened none room hub_is gate_is end_is left =
+    after_append source hub gate end opened room hub_is gate_is end_is left =
         let fs = at.follows in
-        let does = appends (plan_of c) core parts.hub.verdicts item.item fs.sound (open_before opened) at.sound next.at (full_none none) in
+        let both = rooms (full_of parts.hub) (is_some item.byte && is_full parts.gate) room in
+        let does = appends (plan_of c) core parts.hub.verdicts item.item fs.sound (open_before opened) at.sound next.at (full_none both.0) in
         record {
           «open» = open_before opened;
           at = record {
             follows = follows_as f c core parts.hub parts.followers.items fs (core.appended + 1) core.closed hub (hub_is ∙ ap (λ h. with_append h item.item) fs.stands ∙ does.after)
                 (event_IsSound (plan_of c) core Append (is_plan c is) fs.sound does.may);
             rest = subst (StillToCome r source) (sym next.rest_is) left;
-            gates = subst (Gates c (record core { appended = core.appended + 1 })) (sym gate_is) (after_item c core parts.gate at.gates item rest next room);
+            gates = subst (Gates c (record core { appended = core.appended + 1 })) (sym gate_is) (after_item c core parts.gate at.gates item rest next both.1);
             required = at.required;
             end = end_is ∙ sym (ap end_in next.longer ∙ ap end_back (reverse-append (take core.appended (log_of c)) (item.item ∷ [])));
             sound = at.sound;
@@ -122,44 +128,35 @@ module _ {M F : Type 0} (r : Recording M) (f : Following F) (c : Course) (core :
         }
 
     -- the item is put back, and nothing else has changed
-    same_run : (source : Source M) (hub : HubState) → hub ≡ parts.hub → StillToCome r source (item ∷ rest)
-        → IsAt r f c core (record { source = source; hub = hub; followers = parts.followers; required = parts.required; gate = parts.gate; end = parts.end })
-    same_run source hub same left = record {
-      follows = subst (λ h. Follows f c core h parts.followers.items) (sym same) at.follows;
+    same_run : (source : Source M) (hub : HubState) (gate : GateState) → hub ≡ parts.hub → gate ≡ parts.gate → StillToCome r source (item ∷ rest)
+        → IsAt r f c core (record { source = source; hub = hub; followers = parts.followers; required = parts.required; gate = gate; end = parts.end })
+    same_run source hub gate hub_is gate_is left = record {
+      follows = subst (λ h. Follows f c core h parts.followers.items) (sym hub_is) at.follows;
       rest = subst (StillToCome r source) (sym first) left;
-      gates = at.gates;
+      gates = subst (Gates c core) (sym gate_is) at.gates;
       required = at.required;
       end = at.end;
       sound = at.sound;
     }
 
-    pub waits_for_gate : (source : Source M) → parts.hub.closed ≡ false → StillToCome r source (item ∷ rest) → (is_some item.byte && is_full parts.gate) ≡ true
-        → HasWaited r f c core parts (record { source = source; hub = parts.hub; followers = parts.followers; required = parts.required; gate = parts.gate; end = parts.end })
-    waits_for_gate source opened left crowded = record {
-      «open» = open_before opened;
-      crowded = (
-          let both = and_parts (is_some item.byte) (is_full parts.gate) crowded in
-          inr (eqb-true (length parts.gate.steps) 4096 both.1, ap next_has_byte first ∙ both.0));
-      at = same_run source parts.hub refl left;
-      hub = refl;
-      gate = refl;
-    }
+    -- some reader stands a whole log behind, or the gate is full
+    no_room : (o : Option Full) → full_of parts.hub ≡ o → (not (is_some o) && not (is_some item.byte && is_full parts.gate)) ≡ false → HasNoRoom r f c core (length parts.gate.steps)
+    no_room (Some full) here none =
+        let one = named core.taken core.appended c.cap full (ap full_of (sym at.follows.stands) ∙ here) in
+        inl (one.0, omega (arith, one.1.0, at.follows.sound.taken), one.1.1)
+    no_room None here none =
+        let both = and_parts (is_some item.byte) (is_full parts.gate) (not-false (is_some item.byte && is_full parts.gate) none) in
+        inr (eqb-true (length parts.gate.steps) 4096 both.1, ap next_has_byte first ∙ both.0)
 
-    pub waits_for_log : (source : Source M) (hub : HubState) → parts.hub.closed ≡ false → hub ≡ with_append parts.hub item.item → StillToCome r source (item ∷ rest) → (full : Full) → full_of parts.hub ≡ Some full
-        → HasWaited r f c core parts (record { source = source; hub = hub; followers = parts.followers; required = parts.required; gate = parts.gate; end = parts.end })
-    waits_for_log source hub opened hub_is left full is_full_here =
-        let fs = at.follows in
-        let full_here : full_of (hub_of (plan_of c) core parts.hub.verdicts) ≡ Some full = ap full_of (sym fs.stands) ∙ is_full_here in
-        let stays = refuses (plan_of c) core parts.hub.verdicts item.item full fs.sound full_here in
-        let same : hub ≡ parts.hub = hub_is ∙ ap (λ h. with_append h item.item) fs.stands ∙ stays.after ∙ sym fs.stands in
-        let one = named core.taken core.appended c.cap full full_here in
-        record {
-          «open» = open_before opened;
-          crowded = inl (one.0, omega (arith, one.1.0, fs.sound.taken), one.1.1);
-          at = same_run source hub same left;
-          hub = same;
-          gate = refl;
-        }
+    pub waits : (source : Source M) (hub : HubState) (gate : GateState) → parts.hub.closed ≡ false → false ≡ has_room parts.hub parts.gate item → hub ≡ parts.hub → gate ≡ parts.gate → StillToCome r source (item ∷ rest)
+        → HasWaited r f c core parts (record { source = source; hub = hub; followers = parts.followers; required = parts.required; gate = gate; end = parts.end })
+    waits source hub gate opened none hub_is gate_is left = record {
+      «open» = open_before opened;
+      crowded = no_room (full_of parts.hub) refl (sym none);
+      at = same_run source hub gate hub_is gate_is left;
+      hub = hub_is;
+      gate = gate_is;
+    }
 
 -- WHAT EACH TURN LEAVES
 
@@ -186,18 +183,19 @@ item_more gate i = by i.byte
     by (Some byte) = issue_more gate (number i.item - 1) byte
 
 -- one item less to come pays for what it brings
-pub lessens_append : (left left' : ℕ) (before hub : HubState) (gate gate' : GateState) (i : Item) → left' < left → before.closed ≡ false → full_of before ≡ None → hub ≡ with_append before i.item → gate' ≡ with_item gate i
+pub lessens_append : (left left' : ℕ) (before hub : HubState) (gate gate' : GateState) (i : Item) → left' < left → before.closed ≡ false → true ≡ has_room before gate i → hub ≡ with_append before i.item → gate' ≡ with_item gate i
     → left' * (length hub.taken + 2) + cond hub.closed 0 1 + unread hub + length gate'.steps < left * (length before.taken + 2) + cond before.closed 0 1 + unread before + length gate.steps
-lessens_append left left' before hub gate gate' i less opened none hub_is gate_is =
+lessens_append left left' before hub gate gate' i less opened room hub_is gate_is =
+    let none = (rooms (full_of before) (is_some i.byte && is_full gate) room).0 in
     let taken : hub.taken ≡ before.taken = ap (λ (h : HubState). h.taken) hub_is in
     let closed : hub.closed ≡ before.closed = ap (λ (h : HubState). h.closed) hub_is in
     let appended : hub.appended ≡ before.appended + 1 = ap (λ (h : HubState). h.appended) hub_is ∙ ap (λ (o : Option Full). cond (is_some o) before.appended (before.appended + 1)) none in
     let more : unread hub ≤ unread before + length before.taken = subst (λ n. n ≤ unread before + length before.taken) (sym (λ i. sum_by (λ count. appended i - count) (taken i))) (unread-more before.appended before.taken) in
-    let room : length gate'.steps ≤ length gate.steps + 1 = subst (λ (g : GateState). length g.steps ≤ length gate.steps + 1) (sym gate_is) (item_more gate i) in
+    let more_waits : length gate'.steps ≤ length gate.steps + 1 = subst (λ (g : GateState). length g.steps ≤ length gate.steps + 1) (sym gate_is) (item_more gate i) in
     let paid : (left' + 1) * (length before.taken + 2) ≤ left * (length before.taken + 2) = mul-le (left' + 1) (length before.taken + 2) left (length before.taken + 2) (omega (arith, less)) (omega arith) in
     let one : (left' + 1) * (length before.taken + 2) ≡ left' * (length before.taken + 2) + (length before.taken + 2) = grind arith in
     let same : left' * (length hub.taken + 2) ≡ left' * (length before.taken + 2) = ap (λ l. left' * (length l + 2)) taken in
-    omega (arith, more, room, paid, one, same, ap {B = ℕ} (λ b. cond b 0 1) closed)
+    omega (arith, more, more_waits, paid, one, same, ap {B = ℕ} (λ b. cond b 0 1) closed)
 
 -- the close is one turn less
 pub lessens_close : (left left' : ℕ) (before hub : HubState) (waiting : ℕ) → left' ≤ left → before.closed ≡ false → hub ≡ with_close before
@@ -211,8 +209,8 @@ lessens_close left left' before hub waiting less opened hub_is =
     omega (arith, same, closed, was, paid)
 
 -- an item that is put back leaves all
-pub lessens_none : (left left' : ℕ) (before hub : HubState) (waiting : ℕ) → left' ≤ left → hub ≡ before
-    → left' * (length hub.taken + 2) + cond hub.closed 0 1 + unread hub + waiting ≤ left * (length before.taken + 2) + cond before.closed 0 1 + unread before + waiting
-lessens_none left left' before hub waiting less same =
+pub lessens_none : (left left' : ℕ) (before hub : HubState) (gate gate' : GateState) → left' ≤ left → hub ≡ before → gate' ≡ gate
+    → left' * (length hub.taken + 2) + cond hub.closed 0 1 + unread hub + length gate'.steps ≤ left * (length before.taken + 2) + cond before.closed 0 1 + unread before + length gate.steps
+lessens_none left left' before hub gate gate' less same same_gate =
     let paid : left' * (length hub.taken + 2) ≤ left * (length before.taken + 2) = mul-le left' (length hub.taken + 2) left (length before.taken + 2) less (omega (arith, ap (λ (h : HubState). length h.taken) same)) in
-    omega (arith, paid, ap unread same, ap {B = ℕ} (λ (h : HubState). cond h.closed 0 1) same)
+    omega (arith, paid, ap unread same, ap {B = ℕ} (λ (h : HubState). cond h.closed 0 1) same, ap (λ (g : GateState). length g.steps) same_gate)

@@ -7,6 +7,7 @@ pub mod LeastLaws
 pub mod ListLaws
 pub mod MakeLaws
 pub mod OpeningLaws
+pub mod OrderLaws
 pub mod PartLaws
 pub mod PeriodLaws
 pub mod ReadLaws

@@ -4,7 +4,7 @@ use Rattle.std.proofs.Common.{◌≡◌, ◌⊎◌, inl, inr, ℕ, ◌+◌, ◌-
 use Rattle.std.specs.Prelude.{get_or, slice_index}
 use Rattle.std.specs.List.{All, Contains}
 use Rattle.std.proofs.Math.Seq.{take-add}
-use Rattle.std.proofs.lemmas.List.{drop_all, drop-drop, drop-map, length-take, take_more}
+use Rattle.std.proofs.lemmas.List.{drop_all, drop-drop, drop-map, length-take, take_all, take_more}
 use Rattle.std.proofs.lemmas.List.Elements.{All-contains, All-push}
 use Rattle.after_edge.specs.Sink.{Telling, Writes}
 use Rattle.after_edge.proofs.SinkLaws.{Adds-then, Writes-nothing, Writes-same, Writes-then}
@@ -27,7 +27,7 @@ use Rattle.turn_run.specs.Course.{Course, bytes_in, log_of, output_of, plan_of}
 use Rattle.turn_run.specs.Endings.{end_in}
 use Rattle.turn_run.specs.Gates.{Gates}
 use Rattle.turn_run.specs.Closings.{IsReadOut}
-use Rattle.turn_run.specs.Periods.{IsIdle, IsStill, Moves}
+use Rattle.turn_run.specs.Periods.{HaveMoved, IsIdle, Moves}
 use Rattle.turn_run.specs.Replicas.{Follows, after_turn}
 use Rattle.turn_run.specs.Runs.{AllRead, AllTaken, HasBroken, HasCome, HasCrashed, HasReleased, IsAt, IsBesides, Lessens, LessensRead, Reads, Records, bytes_between, turns_left, unread, with_released}
 use Rattle.turn_run.specs.Sources.{StillToCome, items_left}
@@ -250,12 +250,8 @@ all_idle parts turns pattern idle =
     (closed, all)
 
 module _ {M F : Type 0} (r : Recording M) (f : Following F) (before : Parts M F) where
-  -- so many turns of a period have moved something, or there was nothing to do in them
-  abbrev pub HasMoved : Parts M F → List Letter → Type 0
-  HasMoved after turns = (turns_left r f after < turns_left r f before) ⊎ (IsStill r f before after × All (IsIdle before.hub before.gate.steps) turns)
-
   -- one turn more
-  pub move_on : (mid after : Parts M F) (turns : List Letter) (place : ℕ) (d : Letter) → place < length turns → HasMoved mid (take place turns) → Moves r f (get_or turns place d) mid after → HasMoved after (take (place + 1) turns)
+  pub move_on : (mid after : Parts M F) (turns : List Letter) (place : ℕ) (d : Letter) → place < length turns → HaveMoved r f (take place turns) before mid → Moves r f (get_or turns place d) mid after → HaveMoved r f (take (place + 1) turns) before after
   move_on mid after turns place d there so_far moves = elim so_far [
     | inl less ↦ inl (elim moves [
       | inl more ↦ omega (arith, less, more)
@@ -272,8 +268,12 @@ module _ {M F : Type 0} (r : Recording M) (f : Following F) (before : Parts M F)
     ]
   ]
 
+  -- all turns of a period are over
+  pub moved_all : (after : Parts M F) (turns : List Letter) (place : ℕ) → length turns ≤ place → HaveMoved r f (take place turns) before after → HaveMoved r f turns before after
+  moved_all after turns place all moved = subst (λ turns. HaveMoved r f turns before after) (take_all place turns all) moved
+
   -- a whole period has moved something, or the run was read out
-  pub falls : (after : Parts M F) (turns : List Letter) → IsPattern (length before.hub.taken) turns → HasMoved after turns → (turns_left r f after < turns_left r f before) ⊎ IsReadOut before
+  pub falls : (after : Parts M F) (turns : List Letter) → IsPattern (length before.hub.taken) turns → HaveMoved r f turns before after → (turns_left r f after < turns_left r f before) ⊎ IsReadOut before
   falls after turns pattern moved = elim moved [
     | inl less ↦ inl less
     | inr (still, idle) ↦ inr (all_idle before turns pattern idle)

@@ -1,12 +1,14 @@
 -- The gate of a run, where the core stands.
 use Rattle.memory_map.specs.declared.TheConstants.{MOST_STEPS}
-use Rattle.std.specs.Prelude.{◌≡◌, ℕ, ◌-◌, ◌<◌, ◌≤◌, false, if◌then◌else◌, List, [], ◌∷◌, length, take, drop, slice_index, Option, Some, None}
+use Rattle.std.specs.Prelude.{◌≡◌, ℕ, ◌-◌, ◌<◌, ◌≤◌, Bool, false, not, ◌&&◌, if◌then◌else◌, List, [], ◌∷◌, length, take, drop, slice_index, Option, Some, None, is_some}
+use Rattle.run_events.specs.declared.record.Record.{Record}
 use Rattle.run_events.specs.Record.{number}
 use Rattle.run_events.specs.declared.item.Item.{Item}
 use Rattle.any_machine.specs.Log.{before_step, bytes_of}
 use Rattle.gate_core.specs.Core.{CoreState}
-use Rattle.gate_core.specs.Hub.{HubState, approved_at, verdict_at}
-use Rattle.output_gate.specs.Gate.{GateState, behind, with_issue, with_withheld}
+use Rattle.gate_core.specs.Follow.{approvals}
+use Rattle.gate_core.specs.Hub.{HubState, approved_at, full_of, verdict_at, with_append}
+use Rattle.output_gate.specs.Gate.{GateState, behind, count_below, is_full, with_issue, with_release, with_withheld}
 use Rattle.turn_run.specs.Course.{Course, least_limit, steps_of, bytes_in, stop_of}
 
 -- the bytes of the records that were appended, each with its step
@@ -55,6 +57,14 @@ pub record Gates (c : Course) (core : CoreState) (gate : GateState) : Type 0 whe
   pub there : core.released ≤ length (kept gate.from (issued_by c core.appended))
   pub few : length gate.steps ≤ 4096
 
+-- how many of the waiting bytes are of steps that all of these readers approve
+abbrev pub approved_in : HubState → List ℕ → GateState → ℕ
+approved_in hub readers gate = count_below (least_approved (approvals hub.verdicts) readers) gate.steps
+
+-- a gate after these were put
+abbrev pub after_put : HubState → List ℕ → GateState → GateState
+after_put hub readers gate = with_release gate (approved_in hub readers gate)
+
 -- a gate after the byte of an item was issued to it
 abbrev pub with_byte : GateState → ℕ → Option ℕ → GateState
 with_byte gate step None = gate
@@ -62,6 +72,17 @@ with_byte gate step (Some byte) = with_issue gate step byte
 
 abbrev pub with_item : GateState → Item → GateState
 with_item gate i = with_byte gate (number i.item - 1) i.byte
+
+-- the log has room for a record more, and the gate for the byte of this item, if it has one
+abbrev pub has_room : HubState → GateState → Item → Bool
+has_room hub gate i = not (is_some (full_of hub)) && not (is_some i.byte && is_full gate)
+
+-- after the record of an item was appended, and after its byte was issued, if they were
+abbrev pub with_append_if : Bool → HubState → Record → HubState
+with_append_if placed hub item = if placed then with_append hub item else hub
+
+abbrev pub with_item_if : Bool → GateState → Item → GateState
+with_item_if placed gate i = if placed then with_item gate i else gate
 
 -- from which steps on those of them refuse that refuse anything
 abbrev pub refusals : HubState → List ℕ → List ℕ

@@ -8,3 +8,4 @@ pub mod Periods
 pub mod Replicas
 pub mod Runs
 pub mod Sources
+pub mod Turns

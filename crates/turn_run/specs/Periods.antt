@@ -1,5 +1,6 @@
 -- What the turns of a period move, and how followers read to the close.
 use Rattle.std.specs.Prelude.{◌≡◌, ◌⊎◌, ℕ, ◌≤◌, ◌<◌, true, List, [], length, slice_index}
+use Rattle.std.specs.List.{All}
 use Rattle.gate_core.specs.Core.{CoreState}
 use Rattle.gate_core.specs.Hub.{HubState}
 use Rattle.any_machine.specs.Recording.{Recording}
@@ -34,6 +35,10 @@ module _ {M F : Type 0} (r : Recording M) (f : Following F) where
   -- less is left, or there was nothing to do
   abbrev pub Moves : Letter → Parts M F → Parts M F → Type 0
   Moves turn before after = (turns_left r f after < turns_left r f before) ⊎ (IsStill before after × IsIdle before.hub before.gate.steps turn)
+
+  -- so it was in each of these turns: less is left, or in none of them was there anything to do
+  abbrev pub HaveMoved : List Letter → Parts M F → Parts M F → Type 0
+  HaveMoved turns before after = (turns_left r f after < turns_left r f before) ⊎ (IsStill before after × All (IsIdle before.hub before.gate.steps) turns)
 
   -- some course and some state of the core are those of a run whose put has failed
   pub record IsBrokenRun (parts : Parts M F) : Type 0 where

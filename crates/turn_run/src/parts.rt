@@ -1,14 +1,15 @@
 //! The parts of a run, and a turn of each of them.
-ghost use Rattle.std.specs.Prelude.{◌≡◌, ◌-◌, ◌<◌, ◌≤◌, ◌&&◌, IsTrue, false, length, is_some, slice_index, vec_len, IfOk, IfSome, OnOk, OnErr};
+ghost use Rattle.std.specs.Prelude.{◌≡◌, ◌-◌, ◌<◌, ◌≤◌, ◌^◌, ◌&&◌, IsTrue, false, length, is_some, slice_index, take, vec_len, IfOk, IfSome, OnOk, OnErr};
 ghost use Rattle.std.specs.List.{All};
-ghost use Rattle.run_events.specs.Record.{number};
+ghost use Rattle.after_edge.specs.Sink.{Writes, WritesPart};
+ghost use Rattle.run_events.specs.Record.{IsRecord, number};
 ghost use Rattle.gate_core.specs.Core.{CoreState};
 ghost use Rattle.gate_core.specs.Follow.{approvals};
 ghost use Rattle.gate_core.specs.Hub.{approved_at, is_cap};
-ghost use Rattle.output_gate.specs.Gate.{is_full};
+ghost use Rattle.output_gate.specs.Gate.{is_full, with_failure};
 ghost use Rattle.turn_run.specs.Course.{Course, IsMarked};
 ghost use Rattle.turn_run.specs.Following.{AreSame};
-ghost use Rattle.turn_run.specs.Gates.{least_approved, refusals, with_item, withheld_from};
+ghost use Rattle.turn_run.specs.Gates.{after_put, approved_in, has_room, least_approved, refusals, with_append_if, with_item, with_item_if, withheld_from};
 ghost use Rattle.turn_run.specs.Openings.{IsCourseOf, IsOpened, followers_of};
 ghost use Rattle.turn_run.specs.Runs.{HasBroken, HasReleased, IsAt, IsBesides, IsFollowed, IsFollowedRun, IsSoundRun, Lessens, LessensRead, Reads, Records};
 
@@ -94,18 +95,10 @@ impl<M: Recorder, F: Follower> Parts<M, F> {
             self.hub.close();
             return Recorded::Closed;
         };
-        if is_crowded(&self.gate, item) {
+        if !place(&mut self.hub, &mut self.gate, item) {
             self.source.put_back(item);
             return Recorded::Waits;
         }
-        match self.hub.append(item.item) {
-            Ok(()) => {}
-            Err(_) => {
-                self.source.put_back(item);
-                return Recorded::Waits;
-            }
-        }
-        issue(&mut self.gate, item);
         self.end = Ending::of(item.item);
         Recorded::Appended
     }
@@ -131,14 +124,35 @@ impl<M: Recorder, F: Follower> Parts<M, F> {
         ensures err { OnErr result ((c : Course) (core : CoreState) → IsAt M.recording F.following c core self.old → HasBroken M.recording F.following c core self.new O.told out.old out.new) }
         ensures made { AreSame F.following (followers_of self.old) (followers_of self.new) }
     {
-        let required: &[u32] = &self.required;
-        let below = least_approved(&self.hub, required);
-        match self.gate.release(below, out) {
-            Ok(_) => {}
-            Err(fault) => return Err(fault),
+        match let_out(&mut self.gate, &self.hub, &self.required, out) {
+            Ok(()) => Ok(()),
+            Err(fault) => Err(fault),
         }
-        withhold_refused(&mut self.gate, &self.hub, required);
-        Ok(())
+    }
+}
+
+// Appends the record of an item to the log, and lets its byte wait in the gate, where both have room; else neither is
+// changed.
+fn place(hub: &mut Hub, gate: &mut OutputGate, item: Item) -> bool
+    requires is_open { hub.old.closed ≡ false }
+    requires fits { hub.old.appended < 2 ^ 62 }
+    requires item { IsRecord item.item }
+    requires sound { gate.old.failed ≡ false }
+    requires rises { IfSome item.byte (λ _. gate.old.next ≤ number item.item - 1) }
+    requires marks { IsMarked item }
+    ensures room { result ≡ has_room hub.old gate.old item }
+    ensures log { hub.new ≡ with_append_if result hub.old item.item }
+    ensures gate { gate.new ≡ with_item_if result gate.old item }
+{
+    if is_crowded(gate, item) {
+        return false;
+    }
+    match hub.append(item.item) {
+        Ok(()) => {
+            issue(gate, item);
+            true
+        }
+        Err(_) => false,
     }
 }
 
@@ -163,6 +177,32 @@ fn issue(gate: &mut OutputGate, item: Item)
             Err(_) => unreachable!(),
         }
     }
+}
+
+// Puts the waiting bytes whose steps all of these readers approve, and then withholds all from each step on that one of
+// them refuses.
+fn let_out<O: Sink>(
+    gate: &mut OutputGate,
+    hub: &Hub,
+    required: &[u32],
+    out: &mut O,
+) -> Result<(), SinkFault>
+    requires there { All (λ reader. reader < length hub.now.taken) required.now }
+    requires sound { gate.old.failed ≡ false }
+    requires passed { All (λ reader. (after_put hub.now required.now gate.old).passed ≤ approved_at hub.now reader) required.now }
+    ensures put { OnOk result (Writes O.told out.old out.new (take (approved_in hub.now required.now gate.old) gate.old.bytes)) }
+    ensures part { OnErr result (WritesPart O.told out.old out.new (take (approved_in hub.now required.now gate.old) gate.old.bytes)) }
+    ensures some { OnErr result (1 ≤ approved_in hub.now required.now gate.old) }
+    ensures withheld { OnOk result (gate.new ≡ withheld_from (refusals hub.now required.now) (after_put hub.now required.now gate.old)) }
+    ensures failed { OnErr result (gate.new ≡ with_failure gate.old (approved_in hub.now required.now gate.old)) }
+{
+    let below = least_approved(hub, required);
+    match gate.release(below, out) {
+        Ok(_) => {}
+        Err(fault) => return Err(fault),
+    }
+    withhold_refused(gate, hub, required);
+    Ok(())
 }
 
 // Below which step all of these readers approve; where there are none, all.

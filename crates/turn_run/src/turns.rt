@@ -1,13 +1,14 @@
 //! A run by turns, from its first turn to its close.
-ghost use Rattle.std.specs.Prelude.{◌⊎◌, ◌<◌, length, OnOk, OnErr};
+ghost use Rattle.std.specs.Prelude.{length, OnOk, OnErr};
 ghost use Rattle.gate_core.specs.Core.{CoreState};
 ghost use Rattle.run_settings.specs.Patterns.{IsLetter, IsPattern};
 ghost use Rattle.turn_run.specs.Course.{Course};
 ghost use Rattle.turn_run.specs.Following.{AreSame};
 ghost use Rattle.turn_run.specs.Closings.{HasEnded, HasStopped, IsReadOut};
 ghost use Rattle.turn_run.specs.Openings.{IsOpened, IsOpenedRun, followers_of};
-ghost use Rattle.turn_run.specs.Periods.{Moves};
-ghost use Rattle.turn_run.specs.Runs.{HasCome, HasCrashed, IsAt, IsSoundRun, turns_left};
+ghost use Rattle.turn_run.specs.Periods.{HaveMoved, Moves};
+ghost use Rattle.turn_run.specs.Runs.{HasCome, HasCrashed, IsAt, IsSoundRun};
+ghost use Rattle.turn_run.specs.Turns.{AreTurns, Fails, FailsBy, FailsIn, IsTurn, StopsBy, TakesTurns};
 
 use crate::{Follower, Parts};
 use after_edge::Sink;
@@ -32,6 +33,8 @@ pub fn run_turns<M: Recorder, F: Follower, O: Sink>(
     ensures err { OnErr result ((c : Course)
         → IsOpened M.recording F.following c parts.old
         → HasStopped M.recording F.following c parts.new O.told out.old out.new) }
+    ensures turns { OnOk result (TakesTurns M.recording F.following O.told turns.now parts.old parts.new out.old out.new) }
+    ensures stops { OnErr result (StopsBy M.recording F.following O.told turns.now parts.old parts.new out.old out.new) }
     ensures made { AreSame F.following (followers_of parts.old) (followers_of parts.new) }
 {
     match take_all_turns(parts, turns, out) {
@@ -57,6 +60,8 @@ fn take_all_turns<M: Recorder, F: Follower, O: Sink>(
     ensures err { OnErr result ((c : Course)
         → IsOpened M.recording F.following c parts.old
         → HasCrashed M.recording F.following c 0 parts.new O.told out.old out.new) }
+    ensures turns { OnOk result (TakesTurns M.recording F.following O.told turns.now parts.old parts.new out.old out.new) }
+    ensures fails { OnErr result (FailsBy M.recording F.following O.told turns.now parts.old parts.new out.old out.new) }
     ensures made { AreSame F.following (followers_of parts.old) (followers_of parts.new) }
 {
     while !parts.is_read_out() {
@@ -71,7 +76,7 @@ fn take_all_turns<M: Recorder, F: Follower, O: Sink>(
     }
 }
 
-// Takes a turn for each letter of the pattern. In a run that is not read out some turn moves something.
+// Takes a turn for each letter of the pattern. Where nothing has moved then, there was nothing to do in any of them.
 fn take_period<M: Recorder, F: Follower, O: Sink>(
     parts: &mut Parts<M, F>,
     turns: &[Letter],
@@ -82,8 +87,9 @@ fn take_period<M: Recorder, F: Follower, O: Sink>(
     ensures come { OnOk result ((c : Course) (core : CoreState)
         → IsAt M.recording F.following c core parts.old
         → HasCome M.recording F.following c core.released parts.new O.told out.old out.new) }
-    ensures falls { OnOk result ((turns_left M.recording F.following parts.new
-        < turns_left M.recording F.following parts.old) ⊎ IsReadOut parts.old) }
+    ensures moved { OnOk result (HaveMoved M.recording F.following turns.now parts.old parts.new) }
+    ensures turns { OnOk result (AreTurns M.recording F.following O.told turns.now parts.old parts.new out.old out.new) }
+    ensures fails { OnErr result (FailsIn M.recording F.following O.told turns.now parts.old parts.new out.old out.new) }
     ensures err { OnErr result ((c : Course) (core : CoreState)
         → IsAt M.recording F.following c core parts.old
         → HasCrashed M.recording F.following c core.released parts.new O.told out.old out.new) }
@@ -110,6 +116,8 @@ fn take_turn<M: Recorder, F: Follower, O: Sink>(
         → IsAt M.recording F.following c core parts.old
         → HasCome M.recording F.following c core.released parts.new O.told out.old out.new) }
     ensures moves { OnOk result (Moves M.recording F.following letter parts.old parts.new) }
+    ensures turn { OnOk result (IsTurn M.recording F.following O.told letter parts.old parts.new out.old out.new) }
+    ensures fails { OnErr result (Fails M.recording F.following O.told letter parts.old parts.new out.old out.new) }
     ensures err { OnErr result ((c : Course) (core : CoreState)
         → IsAt M.recording F.following c core parts.old
         → HasCrashed M.recording F.following c core.released parts.new O.told out.old out.new) }

@@ -1,8 +1,8 @@
-use Rattle.std.proofs.Common.{◌∙◌, ◌≡◌, length, subst, ap, arith}
+use Rattle.std.proofs.Common.{◌∙◌, subst, arith}
 use Rattle.std.proofs.lemmas.List.{take_all}
-use Rattle.gate_core.specs.Hub.{HubState}
-use Rattle.run_settings.specs.Patterns.{IsPattern}
-use Rattle.turn_run.proofs.PeriodLaws.{HasMoved, come_on, crash_on, falls, move_on}
+use Rattle.turn_run.specs.Turns.{AreTurns}
+use Rattle.turn_run.proofs.OrderLaws.{fails_on, turns_on}
+use Rattle.turn_run.proofs.PeriodLaws.{come_on, crash_on, move_on, moved_all}
 use Rattle.turn_run.proofs.turns.take_period.Goals as goal
 
 pub take_turn-requires-clause-run : goal.take_turn-requires-clause-run
@@ -22,16 +22,18 @@ loop-letter-preserved g c = record {
       let now = c.loop-letter.invariant.come of core at in
       come_on g.M.Recorder.recording g.F.Follower.following of g.O.Sink.told core.released c.loop-letter.parts c.take_turn.new.parts c.args.out.now c.loop-letter.out c.take_turn.new.out now (c.in-Ok.ensures.come of now.next now.at));
   moved = move_on g.M.Recorder.recording g.F.Follower.following c.args.parts.now c.loop-letter.parts c.take_turn.new.parts c.args.turns.now c.loop-letter.letter-index _ c.loop-letter-test.true c.loop-letter.invariant.moved c.in-Ok.ensures.moves;
+  turns = turns_on g.M.Recorder.recording g.F.Follower.following g.O.Sink.told c.args.turns.now c.loop-letter.letter-index _ c.loop-letter-test.true c.args.parts.now c.loop-letter.parts c.take_turn.new.parts c.args.out.now c.loop-letter.out c.take_turn.new.out c.loop-letter.invariant.turns c.in-Ok.ensures.turn;
   made = c.take_turn.ensures.made ∙ c.loop-letter.invariant.made;
 }
 
 pub returns-in-Err-clause-made : goal.returns-in-Err-clause-made
 returns-in-Err-clause-made g c = c.take_turn.ensures.made ∙ c.loop-letter.invariant.made
 
-pub returns-clause-falls : goal.returns-clause-falls
-returns-clause-falls g c =
-    let run = c.requires.run in
-    let fs = run.at.follows in
-    let readers : length c.args.parts.now.followers.items ≡ length c.args.parts.now.hub.taken = omega (arith, fs.count, fs.sound.taken, ap (λ (h : HubState). length h.taken) fs.stands) in
-    falls g.M.Recorder.recording g.F.Follower.following c.args.parts.now c.loop-letter.parts c.args.turns.now (subst (λ n. IsPattern n c.args.turns.now) readers c.requires.pattern)
-    (subst (HasMoved g.M.Recorder.recording g.F.Follower.following c.args.parts.now c.loop-letter.parts) (take_all c.loop-letter.letter-index c.args.turns.now (omega arith)) c.loop-letter.invariant.moved)
+pub returns-clause-moved : goal.returns-clause-moved
+returns-clause-moved g c = moved_all g.M.Recorder.recording g.F.Follower.following c.args.parts.now c.loop-letter.parts c.args.turns.now c.loop-letter.letter-index (omega arith) c.loop-letter.invariant.moved
+
+pub returns-clause-turns : goal.returns-clause-turns
+returns-clause-turns g c = subst (λ letters. AreTurns g.M.Recorder.recording g.F.Follower.following g.O.Sink.told letters c.args.parts.now c.loop-letter.parts c.args.out.now c.loop-letter.out) (take_all c.loop-letter.letter-index c.args.turns.now (omega arith)) c.loop-letter.invariant.turns
+
+pub returns-in-Err-clause-fails : goal.returns-in-Err-clause-fails
+returns-in-Err-clause-fails g c = fails_on g.M.Recorder.recording g.F.Follower.following g.O.Sink.told c.args.turns.now c.loop-letter.letter-index _ c.loop-letter-test.true c.args.parts.now c.loop-letter.parts c.take_turn.new.parts c.args.out.now c.loop-letter.out c.take_turn.new.out c.loop-letter.invariant.turns c.in-Err.ensures.fails

@@ -1,6 +1,7 @@
-use Rattle.std.proofs.Common.{◌<◌, length, sym, subst, arith}
+use Rattle.std.proofs.Common.{◌<◌, length, refl, sym, subst, arith}
 use Rattle.run_settings.specs.Patterns.{IsLetter}
 use Rattle.turn_run.specs.Periods.{Moves}
+use Rattle.turn_run.specs.Turns.{IsTurn}
 use Rattle.turn_run.proofs.PeriodLaws.{comes_released, crashes, gate_moves, read_comes, reader_moves, recorded, recorder_moves}
 use Rattle.turn_run.proofs.turns.take_turn.Goals as goal
 
@@ -39,3 +40,20 @@ returns-in-Ok-clause-moves g c =
 pub returns-in-Err-clause-err : goal.returns-in-Err-clause-err
 returns-in-Err-clause-err g c = λ of core at.
     crashes g.M.Recorder.recording g.F.Follower.following of g.O.Sink.told core c.args.parts.now c.release.new.self c.args.out.now c.release.new.out at (c.in-Err.ensures.err of core at)
+
+pub returns-in-Record-clause-turn : goal.returns-in-Record-clause-turn
+returns-in-Record-clause-turn g c =
+    subst (λ turn. IsTurn g.M.Recorder.recording g.F.Follower.following g.O.Sink.told turn c.args.parts.now c.append_next.new.self c.args.out.now c.args.out.now) (sym c.in-Record.is)
+    (λ of core at. (c.append_next.result, c.append_next.ensures.records of core at, refl))
+
+pub returns-in-Read-clause-turn : goal.returns-in-Read-clause-turn
+returns-in-Read-clause-turn g c =
+    subst (λ turn. IsTurn g.M.Recorder.recording g.F.Follower.following g.O.Sink.told turn c.args.parts.now c.read.new.self c.args.out.now c.args.out.now) (sym c.in-Read.is)
+    (λ of core at. (c.read.result, c.read.ensures.reads of core at.follows, c.read.ensures.lessens, c.read.ensures.besides, refl))
+
+pub returns-in-Ok-clause-turn : goal.returns-in-Ok-clause-turn
+returns-in-Ok-clause-turn g c =
+    subst (λ turn. IsTurn g.M.Recorder.recording g.F.Follower.following g.O.Sink.told turn c.args.parts.now c.release.new.self c.args.out.now c.release.new.out) (sym c.in-Release.is) c.in-Ok.ensures.ok
+
+pub returns-in-Err-clause-fails : goal.returns-in-Err-clause-fails
+returns-in-Err-clause-fails g c = (c.in-Release.is, c.in-Err.ensures.err)
