@@ -5,8 +5,8 @@ use Rattle.run_events.specs.declared.event.Event.{Event}
 use Rattle.run_events.specs.declared.event.Event.TheVariants.{Dma, Irq, Trap, Exec}
 use Rattle.run_events.specs.declared.finding.Kind.TheVariants.{Cover}
 use Rattle.analysis_model.specs.Complaints.{Guest, findings}
-use Rattle.analysis_model.specs.Cover.{Span, executed_pcs, outside_at, runs}
-use Rattle.analysis_model.specs.Made.{code_made_of, guest_made_of}
+use Rattle.analysis_model.specs.Cover.{Span, executed_pcs, is_within, outside_at, runs}
+use Rattle.analysis_model.specs.Made.{code_made_of, guest_made_of, spans_made_of}
 use Rattle.finding_tally.specs.Tallied.{Tallied, Tallies, tallied_with}
 use Rattle.coverage_map.specs.declared.area.Area.{Area}
 
@@ -25,6 +25,10 @@ holds area pc = nat_le area.address pc && nat_lt pc (area.address + area.size)
 abbrev pub area_numbers : List Area → List ℕ
 area_numbers [] = []
 area_numbers (area ∷ areas) = area.address ∷ area.size ∷ area_numbers areas
+
+-- a range whose addresses are all code
+abbrev pub IsCode : Area → List Area → Type 0
+IsCode area code = (pc : ℕ) → holds area pc ≡ true → is_within (spans_made_of (area_numbers code)) pc ≡ true
 
 -- what it was made of
 abbrev pub make_now : Covered → List ℕ

@@ -5,13 +5,13 @@ ghost use Rattle.run_events.specs.declared.event.Event.{Event};
 ghost use Rattle.run_events.specs.declared.finding.Kind.TheVariants as kind;
 ghost use Rattle.run_events.specs.Event.{Fits, IsWordInRam};
 ghost use Rattle.analysis_model.specs.Complaints.{findings};
-ghost use Rattle.analysis_model.specs.Cover.{executed_pcs, executed_ranges};
+ghost use Rattle.analysis_model.specs.Cover.{executed_pcs, executed_ranges, is_within};
 ghost use Rattle.analysis_model.specs.Findings.{first_step, tally, kept};
-ghost use Rattle.analysis_model.specs.Made.{make_of};
-ghost use Rattle.coverage_map.specs.Coverage.{Covered, Stands, make_now, guest_now, pcs_now, ranges_now, with_mark, with_outside, after};
+ghost use Rattle.analysis_model.specs.Made.{make_of, spans_made_of};
+ghost use Rattle.coverage_map.specs.Coverage.{Covered, IsCode, Stands, area_numbers, make_now, guest_now, pcs_now, ranges_now, with_mark, with_outside, after};
 ghost use Rattle.coverage_map.specs.Executed.{AreExecuted};
 
-use crate::area::{Area, code_of, is_code};
+use crate::area::{Area, code_of, is_code, main_of};
 use crate::ranges::{count_marks, count_ranges, find_range};
 use elf_image::Image;
 use finding_tally::Tally;
@@ -25,6 +25,8 @@ use std::marker::Model;
 pub struct Coverage {
     ram_kib: u32,
     code: Vec<Area>,
+    // a range of it, which is looked at first
+    main: Area,
     marks: Vec<bool>,
     found: Tally,
 }
@@ -36,7 +38,9 @@ impl Model for Coverage {
 
     ghost view = { λ c. record { ram_kib = c.ram_kib; code = c.code.items; marks = c.marks.items; found = c.found } };
 
-    ghost invariant = { λ c. (c.ram_kib ≤ MOST_RAM_KIB) × (length c.marks.items ≡ 256 * c.ram_kib) };
+    ghost invariant = { λ c. (c.ram_kib ≤ MOST_RAM_KIB)
+        × (length c.marks.items ≡ 256 * c.ram_kib)
+        × IsCode c.main c.code.items };
 }
 
 impl Watcher for Coverage {
@@ -46,6 +50,7 @@ impl Watcher for Coverage {
 
     ghost make = { make_now };
 
+    #[inline(never)]
     fn see(&mut self, event: &Event) {
         self.take_in(event);
     }
@@ -66,10 +71,12 @@ impl Coverage {
         ensures made { IfOk result (λ c. make_now c ≡ make_of kind.Cover image.now) }
     {
         let code = code_of(alloc, &image.segments)?;
+        let main = main_of(&code);
         let marks = vec![in alloc; false; 256 * ram_kib as usize]?;
         Ok(Coverage {
             ram_kib,
             code,
+            main,
             marks,
             found: Tally::new(),
         })
@@ -142,11 +149,19 @@ impl Coverage {
         let Event::Exec { pc, .. } = event else {
             return false;
         };
-        if !is_code(&self.code, *pc) {
+        if !self.has_code_at(*pc) {
             return false;
         }
         self.mark(*pc);
         true
+    }
+
+    // Whether an address is code.
+    #[inline(always)]
+    fn has_code_at(&self, pc: u32) -> bool
+        ensures { result ≡ is_within (spans_made_of (area_numbers self.now.code)) pc }
+    {
+        self.main.holds(pc) || is_code(&self.code, pc)
     }
 
     fn take_in(&mut self, event: &Event)
@@ -175,7 +190,7 @@ impl Coverage {
     fn look_at(&mut self, step: u32, pc: u32)
         ensures { self.new ≡ with_outside self.old step pc }
     {
-        if !is_code(&self.code, pc) {
+        if !self.has_code_at(pc) {
             self.found.add(Finding {
                 step,
                 pc,

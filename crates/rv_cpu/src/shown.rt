@@ -80,8 +80,9 @@ impl Engine {
         if self.csrs.pending(lines).is_some() {
             return;
         }
+        let most = number - self.steps;
         let mut behind = 0;
-        'steps: while self.steps + behind < number {
+        'steps: while behind < most {
             if !self.show_next(lines, behind, seen) {
                 break 'steps;
             }

@@ -15,7 +15,7 @@ use Rattle.rv_cpu.proofs.engine.Engine.run_shown.Goals.{else-steps-test, then-st
 pub steps-init : goal.steps-init
 steps-init g c = record {
   stands = stands_first c.args.lines c.args.number c.args.self.now (g.W.Watcher.has_seen c.args.seen.now) c.requires.aligned;
-  few = grind (arith, c.if-self-number.false, c.self.view_is);
+  few = omega (arith);
   size = refl;
   made = refl;
 }
@@ -31,14 +31,14 @@ pub steps-preserved : goal.steps-preserved
 steps-preserved g c =
     let stands = c.steps.invariant.stands in
     let free : pending c.args.self.now.csrs c.args.lines ≡ None = free_by _ (grind (arith, c.self.view_is, c.pending.ensures, c.is_some.ensures, c.if-is_some.false)) in
-    let room : c.steps.self.step + c.steps.behind < c.args.number = grind (arith, c.self-in-steps.view_is, c.steps-test.true) in
+    let room : c.steps.self.step + c.steps.behind < c.args.number = grind (arith, c.self.view_is, c.steps-test.true, stands.step, c.if-self-number.false) in
     let on =
         goes_on c.args.lines c.steps.behind c.steps.self c.show_next.new.self (g.W.Watcher.has_seen c.steps.seen) (g.W.Watcher.has_seen c.show_next.new.seen) c.show_next.ensures.state c.show_next.ensures.seen
         (ap (λ k. pending k c.args.lines) stands.csrs ∙ free) (sym c.show_next.ensures.answer ∙ c.if-not-show_next.false)
     in
     record {
       stands = stands_next c.args.lines c.args.number c.steps.behind c.args.self.now c.steps.self c.show_next.new.self (g.W.Watcher.has_seen c.args.seen.now) (g.W.Watcher.has_seen c.steps.seen) (g.W.Watcher.has_seen c.show_next.new.seen) stands room on;
-      few = omega (arith, room, on.step);
+      few = omega (arith, c.steps-test.true);
       size = c.show_next.ensures.size ∙ c.steps.invariant.size;
       made = c.show_next.ensures.made ∙ c.steps.invariant.made;
     }
