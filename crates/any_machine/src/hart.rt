@@ -44,7 +44,8 @@ pub trait Hart {
     fn run_fast<W: Watcher>(&mut self, lines: u8, number: u32, seen: &mut W)
         requires number { number ≤ MOST_STEPS }
         requires size { ram_size self.old ≡ 1024 * W.ram_kib seen.old }
-        ensures runs { RunSoFar machine number (unfed done lines self.old) (unfed done lines self.new)
+        ensures runs { RunSoFar machine number (unfed done lines self.old)
+            (unfed done lines self.new)
             (W.has_seen seen.old) (W.has_seen seen.new) }
         ensures rises { done self.old ≤ done self.new }
         ensures ram { ram_size self.new ≡ ram_size self.old }
@@ -54,7 +55,8 @@ pub trait Hart {
     /// The disk writes a word into RAM before the next step. It answers what that shows.
     fn dma(&mut self, address: u32, word: u32, mark: u8) -> Event
         requires { IsTrue (machine.holds self.old address) }
-        ensures touch { machine.touch self.old (record { address = address; word = word; mark = mark })
+        ensures touch { machine.touch self.old
+            (record { address = address; word = word; mark = mark })
             ≡ (result, self.new) }
         ensures size { ram_size self.new ≡ ram_size self.old }
         ensures fits { (ram_kib : ℕ) → ram_size self.old ≡ 1024 * ram_kib → Fits ram_kib result };

@@ -22,7 +22,8 @@ fn run_unfed<H: Hart, W: Watcher>(standing: &mut Standing<H>, number: u32, seen:
     requires number { number ≤ MOST_STEPS }
     requires runs { standing.old.power ≡ None }
     requires size { H.ram_size standing.old.hart ≡ 1024 * W.ram_kib seen.old }
-    ensures runs { RunSoFar H.machine number (held_of H.done standing.old) (held_of H.done standing.new)
+    ensures runs { RunSoFar H.machine number (held_of H.done standing.old)
+        (held_of H.done standing.new)
         (W.has_seen seen.old) (W.has_seen seen.new) }
     ensures rises { H.done standing.old.hart ≤ H.done standing.new.hart }
     ensures power { standing.new.power ≡ None }

@@ -122,7 +122,8 @@ impl Coverage {
         ensures now { result ≡ length (ranges_now self.now) }
         ensures seen { (h : List Event) → Stands self.now h → result ≡ length (executed_ranges h) }
         // what a reader knows of them: they ascend, lie apart, and have exactly the executed bytes
-        ensures executed { (h : List Event) → Stands self.now h → AreExecuted (ranges_now self.now) h }
+        ensures executed { (h : List Event) → Stands self.now h
+            → AreExecuted (ranges_now self.now) h }
     {
         count_ranges(&self.marks)
     }
@@ -134,7 +135,8 @@ impl Coverage {
             ≡ Some (record { from = result.0; to = result.1 }) }
         ensures seen { (h : List Event)
             → Stands self.now h
-            → slice_get (executed_ranges h) index ≡ Some (record { from = result.0; to = result.1 }) }
+            → slice_get (executed_ranges h) index
+                ≡ Some (record { from = result.0; to = result.1 }) }
     {
         find_range(&self.marks, index)
     }

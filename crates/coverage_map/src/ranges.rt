@@ -31,7 +31,8 @@ pub fn count_ranges(marks: &[bool]) -> u64
 pub fn find_range(marks: &[bool], index: u64) -> (u32, u32)
     requires size { length marks.now ≤ 4194304 }
     requires there { index < length (runs (marked marks.now)) }
-    ensures { slice_get (runs (marked marks.now)) index ≡ Some (record { from = result.0; to = result.1 }) }
+    ensures { slice_get (runs (marked marks.now)) index
+        ≡ Some (record { from = result.0; to = result.1 }) }
 {
     let mut place = next_marked(marks, 0);
     for passed in 0..index {
@@ -62,7 +63,8 @@ fn range_end(marks: &[bool], start: usize) -> usize
     ensures from { start < result }
     ensures to { result ≤ length marks.now }
     ensures range { runs (marked_behind marks.now start)
-        ≡ record { from = place_address start; to = place_address result } ∷ runs (marked_behind marks.now result) }
+        ≡ record { from = place_address start; to = place_address result } ∷ runs
+            (marked_behind marks.now result) }
 {
     let mut place = start + 1;
     while place < marks.len() && marks[place] {

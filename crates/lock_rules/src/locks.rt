@@ -179,7 +179,8 @@ impl Locks {
     // Whether no access to RAM of at most four bytes from an address on touches a guarded one.
     #[inline(always)]
     fn is_unguarded(&self, address: u32) -> bool
-        ensures { result ≡ true → (width : ℕ) → width ≤ 4 → InRam (1024 * self.now.ram_kib) address width →
+        ensures { result ≡ true → (width : ℕ) → width ≤ 4
+            → InRam (1024 * self.now.ram_kib) address width →
             least_from (is_open self.now.locks self.now.context self.now.guards) address width ≡ None }
     {
         self.guarded.is_clear(address, GUARDED)

@@ -207,7 +207,8 @@ impl Redzones {
         access: Access,
     ) -> Option<Finding>
         ensures { result ≡ option_map (finding_at step pc)
-            (option_or (free self.now.ram_kib (use_in self.now.shade) announced) (touch (use_in self.now.shade) access)) }
+            (option_or (free self.now.ram_kib (use_in self.now.shade) announced)
+                (touch (use_in self.now.shade) access)) }
     {
         match self.first_bad_free(announced) {
             Some(address) => Some(Finding {
@@ -222,7 +223,8 @@ impl Redzones {
 
     // The least byte of RAM in a freed block that is not live.
     fn first_bad_free(&self, announced: Option<Announcement>) -> Option<u32>
-        ensures { option_map bad_free result ≡ free self.now.ram_kib (use_in self.now.shade) announced }
+        ensures { option_map bad_free result
+            ≡ free self.now.ram_kib (use_in self.now.shade) announced }
     {
         match announced {
             Some(Announcement::Free { address, size }) => {

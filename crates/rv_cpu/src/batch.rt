@@ -89,7 +89,8 @@ impl Engine {
         requires rs1 { IsRegister rs1 }
         ensures { going result (from self.new pc)
             ≡ goes_plainly (from self.old pc)
-            (model.loading (from self.old pc) None size op rd (sum (register self.old rs1) offset)) }
+            (model.loading (from self.old pc) None size op rd
+                (sum (register self.old rs1) offset)) }
     {
         let address = self.register(rs1).wrapping_add(offset);
         let width = alu::load_width(op);
@@ -114,7 +115,8 @@ impl Engine {
         requires rs1 { IsRegister rs1 }
         ensures { going result (from self.new pc)
             ≡ goes_plainly (from self.old pc)
-            (model.loading (from self.old pc) None size op rd (sum (register self.old rs1) offset)) }
+            (model.loading (from self.old pc) None size op rd
+                (sum (register self.old rs1) offset)) }
     {
         match op {
             LoadOp::Lb => self.fetch_as(size, pc, LoadOp::Lb, rd, rs1, offset),
@@ -140,7 +142,8 @@ impl Engine {
         requires rs1 { IsRegister rs1 }
         ensures { going result (from self.new pc)
             ≡ goes_plainly (from self.old pc)
-            (model.storing (from self.old pc) size op (register self.old rs2) (sum (register self.old rs1) offset)) }
+            (model.storing (from self.old pc) size op (register self.old rs2)
+                (sum (register self.old rs1) offset)) }
     {
         let address = self.register(rs1).wrapping_add(offset);
         let width = alu::store_width(op);
@@ -166,7 +169,8 @@ impl Engine {
         requires rs1 { IsRegister rs1 }
         ensures { going result (from self.new pc)
             ≡ goes_plainly (from self.old pc)
-            (model.storing (from self.old pc) size op (register self.old rs2) (sum (register self.old rs1) offset)) }
+            (model.storing (from self.old pc) size op (register self.old rs2)
+                (sum (register self.old rs1) offset)) }
     {
         match op {
             StoreOp::Sb => self.keep_as(size, pc, StoreOp::Sb, rs2, rs1, offset),

@@ -76,7 +76,8 @@ impl Cpu {
         requires number { number ≤ MOST_STEPS }
         requires size { length self.old.ram ≡ 1024 * W.ram_kib seen.old }
         ensures runs { RunSoFar hart number (unfed (λ (s : State). s.step) lines self.old)
-            (unfed (λ (s : State). s.step) lines self.new) (W.has_seen seen.old) (W.has_seen seen.new) }
+            (unfed (λ (s : State). s.step) lines self.new) (W.has_seen seen.old)
+                (W.has_seen seen.new) }
         ensures rises { self.old.step ≤ self.new.step }
         ensures ram { length self.new.ram ≡ length self.old.ram }
         ensures size { W.ram_kib seen.new ≡ W.ram_kib seen.old }

@@ -21,7 +21,8 @@ impl Engine {
     // stay where they are. No interrupt waits.
     fn show_next<W: Watcher>(&mut self, lines: u8, behind: u32, seen: &mut W) -> bool
         requires room { self.old.step + behind < MOST_STEPS }
-        requires fits { (event : Event) (next : State) → next_told behind lines self.old ≡ Some (event, next)
+        requires fits { (event : Event) (next : State)
+            → next_told behind lines self.old ≡ Some (event, next)
             → Fits (W.ram_kib seen.old) event }
         ensures answer { result ≡ is_some (next_told behind lines self.old) }
         ensures state { self.new ≡ state_told self.old (next_told behind lines self.old) }
@@ -67,7 +68,8 @@ impl Engine {
         requires aligned { IsAligned self.old }
         requires size { length self.old.ram ≡ 1024 * W.ram_kib seen.old }
         ensures runs { RunSoFar hart number (unfed (λ (s : State). s.step) lines self.old)
-            (unfed (λ (s : State). s.step) lines self.new) (W.has_seen seen.old) (W.has_seen seen.new) }
+            (unfed (λ (s : State). s.step) lines self.new) (W.has_seen seen.old)
+                (W.has_seen seen.new) }
         ensures rises { self.old.step ≤ self.new.step }
         ensures aligned { IsAligned self.new }
         ensures ram { length self.new.ram ≡ length self.old.ram }

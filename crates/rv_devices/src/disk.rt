@@ -177,7 +177,8 @@ impl Disk {
             ≡ take 512 (drop (512 * self.old.sector) self.old.bytes.items) }
         ensures sent { self.new.pending.sent ≡ 0 }
         ensures mark { self.new.pending.mark
-            ≡ (if list_any (model.holds_sector self.old.sector) self.old.sectors.items then 1 else 0) }
+            ≡ (if list_any
+                (model.holds_sector self.old.sector) self.old.sectors.items then 1 else 0) }
     {
         let at = SECTOR_BYTES * self.sector as usize;
         let sector = &self.bytes[at..at + SECTOR_BYTES];

@@ -244,7 +244,8 @@ impl Taint {
         announced: Option<Announcement>,
     ) -> Option<Finding>
         ensures { result ≡ option_map (finding_at step pc)
-            (option_or (jump (mark_now self.now) instr next) (leak self.now.ram_kib (mark_now self.now) announced)) }
+            (option_or (jump (mark_now self.now) instr next)
+                (leak self.now.ram_kib (mark_now self.now) announced)) }
     {
         if self.jumps_marked(instr) {
             return Some(Finding {
@@ -312,7 +313,8 @@ impl Taint {
     #[inline(always)]
     fn give(&mut self, word: u32, access: &Access)
         requires { AccessFits self.old.ram_kib access.now }
-        ensures { self.new ≡ with_given self.old (marked_by (mark_now self.old) (writes_as (instruction word) access.now)) }
+        ensures { self.new ≡ with_given self.old
+            (marked_by (mark_now self.old) (writes_as (instruction word) access.now)) }
     {
         match word % 128 {
             LOAD => self.give_opcode::<LOAD>(word, access),
@@ -326,7 +328,8 @@ impl Taint {
 
     fn give_opcode<const OPCODE: u32>(&mut self, word: u32, access: &Access)
         requires { AccessFits self.old.ram_kib access.now }
-        ensures { self.new ≡ with_given self.old (marked_by (mark_now self.old) (writes_as (instruction word) access.now)) }
+        ensures { self.new ≡ with_given self.old
+            (marked_by (mark_now self.old) (writes_as (instruction word) access.now)) }
     {
         if word % 128 == OPCODE {
             self.give_decoded(decode(word), access)
@@ -338,7 +341,8 @@ impl Taint {
     #[inline(never)]
     fn give_word(&mut self, word: u32, access: &Access)
         requires { AccessFits self.old.ram_kib access.now }
-        ensures { self.new ≡ with_given self.old (marked_by (mark_now self.old) (writes_as (instruction word) access.now)) }
+        ensures { self.new ≡ with_given self.old
+            (marked_by (mark_now self.old) (writes_as (instruction word) access.now)) }
     {
         self.give_decoded(decode(word), access)
     }
@@ -346,7 +350,8 @@ impl Taint {
     #[inline(always)]
     fn give_decoded(&mut self, instr: Option<Instr>, access: &Access)
         requires { AccessFits self.old.ram_kib access.now }
-        ensures { self.new ≡ with_given self.old (marked_by (mark_now self.old) (writes_as instr access.now)) }
+        ensures { self.new ≡ with_given self.old
+            (marked_by (mark_now self.old) (writes_as instr access.now)) }
     {
         match instr {
             Some(instr) => self.give_by(instr, access),
@@ -358,7 +363,8 @@ impl Taint {
     #[inline(always)]
     fn give_by(&mut self, instr: Instr, access: &Access)
         requires { AccessFits self.old.ram_kib access.now }
-        ensures { self.new ≡ with_given self.old (marked_by (mark_now self.old) (writes_by instr access.now)) }
+        ensures { self.new ≡ with_given self.old
+            (marked_by (mark_now self.old) (writes_by instr access.now)) }
     {
         match instr {
             Instr::Lui { rd, .. }
@@ -389,7 +395,8 @@ impl Taint {
     #[inline(always)]
     fn load(&mut self, rd: u32, access: &Access)
         requires { AccessFits self.old.ram_kib access.now }
-        ensures { self.new ≡ with_given self.old (marked_by (mark_now self.old) (writes_with rd (sources_loaded access.now) no_writes)) }
+        ensures { self.new ≡ with_given self.old
+            (marked_by (mark_now self.old) (writes_with rd (sources_loaded access.now) no_writes)) }
     {
         match *access {
             Access::Load {
@@ -441,7 +448,8 @@ impl Taint {
     #[tactic(auto, using(crate::proofs::MarkLaws::or_nothing, crate::proofs::MarkLaws::marked_by_stored))]
     fn exchange(&mut self, op: AtomicOp, rd: u32, rs2: u32, access: &Access)
         requires { AccessFits self.old.ram_kib access.now }
-        ensures { self.new ≡ with_given self.old (marked_by (mark_now self.old) (atomic_writes op rd rs2 access.now)) }
+        ensures { self.new ≡ with_given self.old
+            (marked_by (mark_now self.old) (atomic_writes op rd rs2 access.now)) }
     {
         let old = self.old(access);
         match op {
@@ -455,7 +463,8 @@ impl Taint {
     // Gives a mark to the register, and one to the bytes that are stored.
     fn swap(&mut self, rd: u32, loaded: u8, access: &Access, stored: u8)
         requires { AccessFits self.old.ram_kib access.now }
-        ensures { self.new ≡ with_given self.old (given_result rd (Some loaded) (given_stored access.now stored)) }
+        ensures { self.new ≡ with_given self.old
+            (given_result rd (Some loaded) (given_stored access.now stored)) }
     {
         self.store(access, stored);
         self.put_register(rd, loaded);
@@ -501,7 +510,8 @@ impl Taint {
     // Of an access to a CSR.
     #[tactic(auto, using(crate::proofs::MarkLaws::or_nothing))]
     fn move_csr(&mut self, op: CsrOp, rd: u32, source: u32, csr: u32)
-        ensures { self.new ≡ with_given self.old (marked_by (mark_now self.old) (csr_writes op rd source csr)) }
+        ensures { self.new ≡ with_given self.old
+            (marked_by (mark_now self.old) (csr_writes op rd source csr)) }
     {
         if csr != MSCRATCH {
             return self.put_register(rd, 0);
@@ -526,7 +536,8 @@ impl Taint {
 
     #[inline(always)]
     fn put_register(&mut self, rd: u32, mark: u8)
-        ensures { self.new ≡ record self.old { registers = registers_with self.old.registers rd (Some mark) } }
+        ensures { self.new ≡ record self.old { registers = registers_with self.old.registers rd
+            (Some mark) } }
     {
         if rd >= 1 && rd < 32 {
             self.registers[rd as usize] = mark;
@@ -545,7 +556,8 @@ impl Taint {
     #[inline(always)]
     fn put_bytes(&mut self, address: u32, width: u32, mark: u8)
         requires { width ≤ 4 }
-        ensures { self.new ≡ record self.old { shade = shade_with self.old.shade address width (Some mark) } }
+        ensures { self.new ≡ record self.old { shade = shade_with self.old.shade address width
+            (Some mark) } }
     {
         if mark != 0 || !self.is_unmarked(address) {
             self.paint(address, width, mark);
@@ -553,7 +565,8 @@ impl Taint {
     }
 
     fn paint(&mut self, address: u32, width: u32, mark: u8)
-        ensures { self.new ≡ record self.old { shade = shade_with self.old.shade address width (Some mark) } }
+        ensures { self.new ≡ record self.old { shade = shade_with self.old.shade address width
+            (Some mark) } }
     {
         let start = u64::from(address);
         self.shadow.paint(start, start + u64::from(width), mark);
