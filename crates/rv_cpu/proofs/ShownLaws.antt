@@ -19,7 +19,7 @@ use Rattle.rv_cpu.specs.Plain.{is_plain}
 use Rattle.rv_cpu.specs.Told.{events_told, next_told, state_told}
 use Rattle.rv_cpu.proofs.CpuLaws.{step_fits, step_sized, step_sound}
 use Rattle.rv_cpu.proofs.PlainLaws.{plain_needs, plain_stores}
-use Rattle.rv_cpu.proofs.ToldLaws.{step_told}
+use Rattle.rv_cpu.proofs.ToldLaws.{none_told, step_told}
 
 abbrev pub steps_of : State → ℕ
 steps_of s = s.step
@@ -60,7 +60,8 @@ pub record GoesOn (lines behind : ℕ) (s t : State) (Seen SeenNow : List Event 
   pub seen : (h : List Event) → Seen h → SeenNow (h ++ event ∷ [])
 
 -- and what stays where it is none
-pub record Stays (s t : State) (Seen SeenNow : List Event → Type 0) : Type 0 where
+pub record Stays (lines behind : ℕ) (s t : State) (Seen SeenNow : List Event → Type 0) : Type 0 where
+  pub plain : is_plain (caught_up behind s) lines ≡ false
   pub state : t ≡ s
   pub seen : (h : List Event) → Seen h → SeenNow h
 
@@ -82,12 +83,12 @@ module _ (lines behind : ℕ) (s t : State) (Seen SeenNow : List Event → Type 
             seen = sees;
           }
 
-  pub stays : is_some (next_told behind lines s) ≡ false → Stays s t Seen SeenNow
-  stays none = by (next_told behind lines s) none state seen
+  pub stays : pending s.csrs lines ≡ None → is_some (next_told behind lines s) ≡ false → Stays lines behind s t Seen SeenNow
+  stays free none = by (next_told behind lines s) refl none state seen
     where
-      by : (o : Option (Event × State)) → is_some o ≡ false → t ≡ state_told s o → ((h : List Event) → Seen h → SeenNow (h ++ events_told o)) → Stays s t Seen SeenNow
-      by None none left sees = record { state = left; seen = λ h was. subst SeenNow (append-nil h) (sees h was) }
-      by (Some x) none left sees = absurd cc
+      by : (o : Option (Event × State)) → next_told behind lines s ≡ o → is_some o ≡ false → t ≡ state_told s o → ((h : List Event) → Seen h → SeenNow (h ++ events_told o)) → Stays lines behind s t Seen SeenNow
+      by None is none left sees = record { plain = none_told lines behind s free is; state = left; seen = λ h was. subst SeenNow (append-nil h) (sees h was) }
+      by (Some x) is none left sees = absurd cc
 
 -- a hart whose counters are some steps behind stands where a run of the hart stands
 pub record Standing (lines number behind : ℕ) (first now : State) (Seen SeenNow : List Event → Type 0) : Type 0 where
@@ -123,7 +124,7 @@ module _ (lines number behind : ℕ) (first s t : State) (Seen SeenNow SeenNext 
   }
 
   -- and where none was done
-  pub stands_still : Stays s t SeenNow SeenNext → Standing lines number behind first t Seen SeenNext
+  pub stands_still : Stays lines behind s t SeenNow SeenNext → Standing lines number behind first t Seen SeenNext
   stands_still still = subst (λ (u : State). Standing lines number behind first u Seen SeenNext) (sym still.state) (record {
     so_far = record { events = stands.so_far.events; goes = stands.so_far.goes; seen = λ h was. still.seen (h ++ stands.so_far.events) (stands.so_far.seen h was) };
     aligned = stands.aligned;

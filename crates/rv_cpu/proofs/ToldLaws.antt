@@ -65,6 +65,39 @@ module _ (s : State) (c : Csrs) (behind lines : ℕ) (x : Event × State) where
   by_fetch (Found f) is = by_decode f.word f.size f.instr is
   by_fetch (Outside address) is = absurd cc
 
+-- and where nothing is told, the step is no plain one
+module _ (s : State) (c : Csrs) (behind n word : ℕ) where
+  none_effect : (e : Effect) (b : Bool) → told_midway behind (told_by s.registers) word (if b then midway s (Does e) else refused s) ≡ None → b ≡ false
+  none_effect e true is = absurd cc
+  none_effect e false is = refl
+
+  none_outcome : (o : Outcome) → told_midway behind (told_by s.registers) word (plainly s o) ≡ None → is_plain_outcome (with_csrs c o) ≡ false
+  none_outcome (Does e) is = none_effect e (not (is_device_access e.access)) is
+  none_outcome (Raises cause value) is = refl
+
+  none_instr : (lines size : ℕ) (i : Instr) (b : Bool) → is_plain_instr i ≡ b → told_midway behind (told_by s.registers) word (if b then plainly s (outcome s lines None word size i) else refused s) ≡ None
+      → (b && is_plain_outcome (outcome (moved c n s) lines None word size i)) ≡ false
+  none_instr lines size i true plain is =
+      let o = outcome s 0 None 0 size i in
+      let own : o ≡ with_csrs s.csrs o = outcome_moved s s.csrs s.step 0 0 size i plain in
+      let here : outcome s lines None word size i ≡ o = outcome_moved s s.csrs s.step lines word size i plain ∙ sym own in
+      ap is_plain_outcome (outcome_moved s c n lines word size i plain) ∙ none_outcome o (ap (λ (r : Outcome). told_midway behind (told_by s.registers) word (plainly s r)) (sym here) ∙ is)
+  none_instr lines size i false plain is = refl
+
+none_decoded : (s : State) (c : Csrs) (behind n lines word size : ℕ) (i : Option Instr) → told_decoded behind lines s word size i ≡ None → is_plain_decoded (moved c n s) lines word size i ≡ false
+none_decoded s c behind n lines word size None is = refl
+none_decoded s c behind n lines word size (Some i) is = none_instr s c behind n word lines size i (is_plain_instr i) refl is
+
+none_fetched : (s : State) (c : Csrs) (behind n lines : ℕ) (fetch : Fetch) → told_fetched behind lines s fetch ≡ None → is_plain_fetched (moved c n s) lines fetch ≡ false
+none_fetched s c behind n lines (Found f) is = none_decoded s c behind n lines f.word f.size f.instr is
+none_fetched s c behind n lines (Outside address) is = refl
+
+pub none_told : (lines behind : ℕ) (s : State) → pending s.csrs lines ≡ None → next_told behind lines s ≡ None → is_plain (caught_up behind s) lines ≡ false
+unfolding is_plain
+none_told lines behind s free is =
+    ap (λ (cause : Option ℕ). is_none cause && is_plain_fetched (caught_up behind s) lines (fetched s.ram s.pc)) (pending_times behind lines s.csrs ∙ free)
+    ∙ none_fetched s (counted_times behind s.csrs) behind (s.step + behind) lines (fetched s.ram s.pc) is
+
 -- what is told of the instruction that was found at the pc
 pub told_found : (behind lines : ℕ) (s : State) (word : ℕ) (i : Instr) (m : Midway) → in_ram (length s.ram) s.pc 4 ≡ true → word ≡ loaded s.ram s.pc 4 → Some i ≡ instruction word → m ≡ executed_plainly s i (outcome s lines None word 4 i)
     → next_told behind lines s ≡ told_midway behind (told_by s.registers) word m

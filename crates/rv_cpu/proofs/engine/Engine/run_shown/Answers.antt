@@ -1,12 +1,13 @@
 -- Each turn of the loop is one more plain step, shown.
-use Rattle.std.proofs.Common.{◌≡◌, ◌+◌, ◌*◌, ◌<◌, None, refl, sym, ap, ◌∙◌, subst, arith}
+use Rattle.std.proofs.Common.{◌≡◌, ◌+◌, ◌*◌, ◌<◌, false, None, refl, sym, ap, ◌∙◌, subst, arith}
 use Rattle.any_machine.specs.Running.{RunSoFar, unfed}
 use Rattle.rv_csr.specs.Traps.{pending}
 use Rattle.hart_model.specs.Aligned.{IsAligned}
 use Rattle.hart_model.specs.Machine.{hart}
 use Rattle.hart_model.specs.State.{State}
 use Rattle.rv_cpu.specs.Batch.{caught_up, from}
-use Rattle.rv_cpu.proofs.BatchLaws.{free_by}
+use Rattle.rv_cpu.specs.Plain.{is_plain}
+use Rattle.rv_cpu.proofs.BatchLaws.{free_by, waiting_plain}
 use Rattle.rv_cpu.proofs.ShownLaws.{Standing, steps_of, aligned_ahead, goes_on, stays, stands_first, stands_next, stands_still, told_fits}
 use Rattle.rv_cpu.proofs.engine.Engine.run_shown.Given.{Over}
 use Rattle.rv_cpu.proofs.engine.Engine.run_shown.Goals as goal
@@ -43,6 +44,10 @@ steps-preserved g c =
       made = c.show_next.ensures.made ∙ c.steps.invariant.made;
     }
 
+-- no interrupt waits
+free : (g : Over) (c : goal.After-catch_up-2 g) → pending c.steps.self.csrs c.args.lines ≡ None
+free g c = ap (λ k. pending k c.args.lines) c.steps.invariant.stands.csrs ∙ free_by _ (grind (arith, c.self.view_is, c.pending.ensures, c.is_some.ensures, c.if-is_some.false))
+
 -- where the loop ends
 left : (g : Over) (c : goal.After-catch_up-2 g) → Standing c.args.lines c.args.number c.steps.behind c.args.self.now c.steps-test.self (g.W.Watcher.has_seen c.args.seen.now) (g.W.Watcher.has_seen c.steps-test.seen)
 left g c = elim c.steps-test.branch [
@@ -50,7 +55,7 @@ left g c = elim c.steps-test.branch [
   | then-steps-test+then-not-show_next w ↦
     rw (w.self-is, w.seen-is)
     (stands_still c.args.lines c.args.number c.steps.behind c.args.self.now c.steps.self w.show_next.new.self (g.W.Watcher.has_seen c.args.seen.now) (g.W.Watcher.has_seen c.steps.seen) (g.W.Watcher.has_seen w.show_next.new.seen) c.steps.invariant.stands
-    (stays c.args.lines c.steps.behind c.steps.self w.show_next.new.self (g.W.Watcher.has_seen c.steps.seen) (g.W.Watcher.has_seen w.show_next.new.seen) w.show_next.ensures.state w.show_next.ensures.seen (sym w.show_next.ensures.answer ∙ w.if-not-show_next.true)))
+    (stays c.args.lines c.steps.behind c.steps.self w.show_next.new.self (g.W.Watcher.has_seen c.steps.seen) (g.W.Watcher.has_seen w.show_next.new.seen) w.show_next.ensures.state w.show_next.ensures.seen (free g c) (sym w.show_next.ensures.answer ∙ w.if-not-show_next.true)))
 ]
 
 caught : (g : Over) (c : goal.After-catch_up-2 g) → c.catch_up-2.new.self ≡ caught_up c.steps.behind c.steps-test.self
@@ -62,3 +67,21 @@ returns-clause-runs g c =
 
 pub returns-clause-aligned : goal.returns-clause-aligned
 returns-clause-aligned g c = subst (λ (s : State). IsAligned s) (sym (caught g c)) (aligned_ahead c.steps.behind c.steps-test.self (left g c).aligned)
+
+-- a step to come that is no plain one ends it, or the number is reached
+last : (g : Over) (c : goal.After-catch_up-2 g) → c.steps-test.self.step + c.steps.behind < c.args.number → is_plain (caught_up c.steps.behind c.steps-test.self) c.args.lines ≡ false
+last g c = elim c.steps-test.branch [
+  | else-steps-test w ↦ λ fewer. absurd (grind (arith, fewer, w.self-is, c.steps.invariant.stands.step, c.self.view_is, w.steps-test.false, c.if-self-number.false))
+  | then-steps-test+then-not-show_next w ↦
+    let still =
+        stays c.args.lines c.steps.behind c.steps.self w.show_next.new.self (g.W.Watcher.has_seen c.steps.seen) (g.W.Watcher.has_seen w.show_next.new.seen) w.show_next.ensures.state w.show_next.ensures.seen
+        (free g c) (sym w.show_next.ensures.answer ∙ w.if-not-show_next.true)
+    in
+    λ fewer. ap (λ (u : State). is_plain (caught_up c.steps.behind u) c.args.lines) (w.self-is ∙ still.state) ∙ still.plain
+]
+
+pub returns-clause-stops : goal.returns-clause-stops
+returns-clause-stops g c = λ fewer. ap (λ (u : State). is_plain u c.args.lines) (caught g c) ∙ last g c (subst (λ (u : State). u.step < c.args.number) (caught g c) fewer)
+
+pub returns-then-is_some-clause-stops : goal.returns-then-is_some-clause-stops
+returns-then-is_some-clause-stops g c = λ fewer. waiting_plain _ _ (grind (arith, c.self.view_is, c.pending.ensures, c.is_some.ensures, c.if-is_some.true))
