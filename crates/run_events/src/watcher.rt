@@ -7,7 +7,7 @@ use crate::Event;
 
 /// Something that looks at the events of a run, one after another.
 pub trait Watcher {
-    /// It has seen this list of events, and no other.
+    /// It stands for this list of events.
     ghost has_seen: { Self → List Event → Type 0 };
 
     /// The RAM size of the runs that it watches, in KiB.
@@ -19,7 +19,9 @@ pub trait Watcher {
     /// Looks at the next event.
     fn see(&mut self, event: &Event)
         requires { Fits (ram_kib self.old) event.now }
-        ensures seen { (h : List Event) → has_seen self.old h → has_seen self.new (h ++ event.now ∷ []) }
+        ensures seen { (h : List Event)
+            → has_seen self.old h
+            → has_seen self.new (h ++ event.now ∷ []) }
         ensures size { ram_kib self.new ≡ ram_kib self.old }
         ensures made { make self.new ≡ make self.old };
 
@@ -45,7 +47,9 @@ pub trait Watcher {
 #[inline(always)]
 pub fn show<W: Watcher>(event: Event, seen: &mut W)
     requires { Fits (W.ram_kib seen.old) event }
-    ensures seen { (h : List Event) → W.has_seen seen.old h → W.has_seen seen.new (h ++ event ∷ []) }
+    ensures seen { (h : List Event)
+        → W.has_seen seen.old h
+        → W.has_seen seen.new (h ++ event ∷ []) }
     ensures size { W.ram_kib seen.new ≡ W.ram_kib seen.old }
     ensures made { W.make seen.new ≡ W.make seen.old }
 {
