@@ -1,12 +1,10 @@
 -- The loop over the steps below a number.
-use Rattle.std.proofs.Common.{◌≡◌, ℕ, suc, None, ◌-◌, ◌<◌, ◌≤◌, Bool, true, false, not, ◌&&◌, List, [], ◌∷◌, ◌++◌, refl, sym, ap, ◌∙◌, subst, append-nil, append_assoc}
+use Rattle.std.proofs.Common.{◌≡◌, ℕ, ◌-◌, ◌≤◌, Bool, true, false, not, ◌&&◌, List, [], ◌++◌, refl, sym, ap, ◌∙◌, subst, append-nil}
 use Rattle.std.specs.Prelude.{is_some}
 use Rattle.run_events.specs.declared.event.Event.{Event}
-use Rattle.run_events.specs.declared.supply.Need.TheVariants.{Nothing}
-use Rattle.any_machine.specs.Machine.{CountsSteps, Machine, power_status}
-use Rattle.any_machine.specs.Replay.{load_fault}
-use Rattle.any_machine.specs.Held.{Held, RunsTo, wait_fault, held_event, held_next, may_step, run_held, run_shown}
-use Rattle.any_machine.proofs.HeldRuns.{runs_done, runs_stay, runs_on}
+use Rattle.any_machine.specs.Machine.{Machine}
+use Rattle.any_machine.specs.Held.{Held, RunsTo, wait_fault, may_step, run_held, run_shown}
+use Rattle.any_machine.proofs.HeldRuns.{runs_done, runs_stay}
 use Rattle.any_machine.specs.Running.{RunSoFar}
 
 -- what is left is nothing

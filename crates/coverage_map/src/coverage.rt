@@ -136,7 +136,7 @@ impl Coverage {
         ensures seen { (h : List Event)
             → Stands self.now h
             → slice_get (executed_ranges h) index
-                ≡ Some (record { from = result.0; to = result.1 }) }
+            ≡ Some (record { from = result.0; to = result.1 }) }
     {
         find_range(&self.marks, index)
     }

@@ -64,7 +64,7 @@ fn range_end(marks: &[bool], start: usize) -> usize
     ensures to { result ≤ length marks.now }
     ensures range { runs (marked_behind marks.now start)
         ≡ record { from = place_address start; to = place_address result } ∷ runs
-            (marked_behind marks.now result) }
+        (marked_behind marks.now result) }
 {
     let mut place = start + 1;
     while place < marks.len() && marks[place] {

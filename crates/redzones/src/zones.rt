@@ -208,7 +208,7 @@ impl Redzones {
     ) -> Option<Finding>
         ensures { result ≡ option_map (finding_at step pc)
             (option_or (free self.now.ram_kib (use_in self.now.shade) announced)
-                (touch (use_in self.now.shade) access)) }
+            (touch (use_in self.now.shade) access)) }
     {
         match self.first_bad_free(announced) {
             Some(address) => Some(Finding {

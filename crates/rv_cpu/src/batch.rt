@@ -90,7 +90,7 @@ impl Engine {
         ensures { going result (from self.new pc)
             ≡ goes_plainly (from self.old pc)
             (model.loading (from self.old pc) None size op rd
-                (sum (register self.old rs1) offset)) }
+            (sum (register self.old rs1) offset)) }
     {
         let address = self.register(rs1).wrapping_add(offset);
         let width = alu::load_width(op);
@@ -116,7 +116,7 @@ impl Engine {
         ensures { going result (from self.new pc)
             ≡ goes_plainly (from self.old pc)
             (model.loading (from self.old pc) None size op rd
-                (sum (register self.old rs1) offset)) }
+            (sum (register self.old rs1) offset)) }
     {
         match op {
             LoadOp::Lb => self.fetch_as(size, pc, LoadOp::Lb, rd, rs1, offset),
@@ -143,7 +143,7 @@ impl Engine {
         ensures { going result (from self.new pc)
             ≡ goes_plainly (from self.old pc)
             (model.storing (from self.old pc) size op (register self.old rs2)
-                (sum (register self.old rs1) offset)) }
+            (sum (register self.old rs1) offset)) }
     {
         let address = self.register(rs1).wrapping_add(offset);
         let width = alu::store_width(op);
@@ -170,7 +170,7 @@ impl Engine {
         ensures { going result (from self.new pc)
             ≡ goes_plainly (from self.old pc)
             (model.storing (from self.old pc) size op (register self.old rs2)
-                (sum (register self.old rs1) offset)) }
+            (sum (register self.old rs1) offset)) }
     {
         match op {
             StoreOp::Sb => self.keep_as(size, pc, StoreOp::Sb, rs2, rs1, offset),

@@ -51,11 +51,7 @@ impl Engine {
                 self.store(size, op, self.register(rs2), address)
             }
             Instr::OpImm { op, rd, rs1, imm } => {
-                self.write(
-                    size,
-                    rd,
-                    self.immediate(op, rs1, imm.cast_unsigned()),
-                )
+                self.write(size, rd, self.immediate(op, rs1, imm.cast_unsigned()))
             }
             Instr::Op { op, rd, rs1, rs2 } => {
                 self.write(

@@ -70,7 +70,7 @@ impl Engine {
         requires size { length self.old.ram ≡ 1024 * W.ram_kib seen.old }
         ensures runs { RunSoFar hart number (unfed (λ (s : State). s.step) lines self.old)
             (unfed (λ (s : State). s.step) lines self.new) (W.has_seen seen.old)
-                (W.has_seen seen.new) }
+            (W.has_seen seen.new) }
         ensures stops { self.new.step < number → is_plain self.new lines ≡ false }
         ensures rises { self.old.step ≤ self.new.step }
         ensures aligned { IsAligned self.new }

@@ -223,7 +223,11 @@ fn shows_plain_steps_alone(rt: HostRuntime) -> Result<(), Fail> {
         let mut cpu = hart_of(rt.alloc(), &words)?;
         let mut counter = Counter { events: 0, pc: 0 };
         cpu.run_shown(0, number, &mut counter);
-        assert_eq!(rt; (cpu.steps(), counter.events, counter.pc), (steps, steps, pc), "{number}");
+        assert_eq!(rt;
+            (cpu.steps(), counter.events, counter.pc),
+            (steps, steps, pc),
+            "{number}"
+        );
         assert_eq!(rt; cpu.register(5), value, "{number}");
         assert_eq!(rt; cpu.pc(), RAM_START + 4 * steps, "{number}");
     }

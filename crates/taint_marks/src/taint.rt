@@ -245,7 +245,7 @@ impl Taint {
     ) -> Option<Finding>
         ensures { result ≡ option_map (finding_at step pc)
             (option_or (jump (mark_now self.now) instr next)
-                (leak self.now.ram_kib (mark_now self.now) announced)) }
+            (leak self.now.ram_kib (mark_now self.now) announced)) }
     {
         if self.jumps_marked(instr) {
             return Some(Finding {
@@ -536,8 +536,10 @@ impl Taint {
 
     #[inline(always)]
     fn put_register(&mut self, rd: u32, mark: u8)
-        ensures { self.new ≡ record self.old { registers = registers_with self.old.registers rd
-            (Some mark) } }
+        ensures { self.new ≡ record self.old {
+          registers = registers_with self.old.registers rd
+              (Some mark);
+        } }
     {
         if rd >= 1 && rd < 32 {
             self.registers[rd as usize] = mark;
@@ -556,8 +558,10 @@ impl Taint {
     #[inline(always)]
     fn put_bytes(&mut self, address: u32, width: u32, mark: u8)
         requires { width ≤ 4 }
-        ensures { self.new ≡ record self.old { shade = shade_with self.old.shade address width
-            (Some mark) } }
+        ensures { self.new ≡ record self.old {
+          shade = shade_with self.old.shade address width
+              (Some mark);
+        } }
     {
         if mark != 0 || !self.is_unmarked(address) {
             self.paint(address, width, mark);
@@ -565,8 +569,10 @@ impl Taint {
     }
 
     fn paint(&mut self, address: u32, width: u32, mark: u8)
-        ensures { self.new ≡ record self.old { shade = shade_with self.old.shade address width
-            (Some mark) } }
+        ensures { self.new ≡ record self.old {
+          shade = shade_with self.old.shade address width
+              (Some mark);
+        } }
     {
         let start = u64::from(address);
         self.shadow.paint(start, start + u64::from(width), mark);

@@ -46,7 +46,7 @@ turns-preserved g c = record {
       loop_next g.H.Hart.machine c.args.number (held_of g.H.Hart.done c.args.standing.now) (held_of g.H.Hart.done c.run_unfed.new.standing) (held_of g.H.Hart.done c.step.new.standing) c.step.new.event
       (g.W.Watcher.has_seen c.args.seen.now) (g.W.Watcher.has_seen c.run_unfed.new.seen) (g.W.Watcher.has_seen c.see.new.self)
       (loop_joins g.H.Hart.machine c.args.number (held_of g.H.Hart.done c.args.standing.now) (held_of g.H.Hart.done c.turns.standing) (held_of g.H.Hart.done c.run_unfed.new.standing)
-    (g.W.Watcher.has_seen c.args.seen.now) (g.W.Watcher.has_seen c.turns.seen) (g.W.Watcher.has_seen c.run_unfed.new.seen) c.turns.invariant.so_far c.run_unfed.ensures.runs)
+      (g.W.Watcher.has_seen c.args.seen.now) (g.W.Watcher.has_seen c.turns.seen) (g.W.Watcher.has_seen c.run_unfed.new.seen) c.turns.invariant.so_far c.run_unfed.ensures.runs)
       (omega (arith, c.steps.ensures, c.if-steps-number.false))
       (may_by g.H.Hart.machine c.args.number (held_of g.H.Hart.done c.run_unfed.new.standing) (ap is_some c.run_unfed.ensures.power) (sym c.step.ensures.answer ∙ c.if-not-step.false))
       (c.step.ensures.does c.if-not-step.false) (c.step.ensures.shows c.if-not-step.false) c.see.ensures.seen;

@@ -34,8 +34,8 @@ steps-preserved g c =
     let free : pending c.args.self.now.csrs c.args.lines ≡ None = free_by _ (grind (arith, c.self.view_is, c.pending.ensures, c.is_some.ensures, c.if-is_some.false)) in
     let room : c.steps.self.step + c.steps.behind < c.args.number = grind (arith, c.self.view_is, c.steps-test.true, stands.step, c.if-self-number.false) in
     let on =
-        goes_on c.args.lines c.steps.behind c.steps.self c.show_next.new.self (g.W.Watcher.has_seen c.steps.seen) (g.W.Watcher.has_seen c.show_next.new.seen) c.show_next.ensures.state c.show_next.ensures.seen
-        (ap (λ k. pending k c.args.lines) stands.csrs ∙ free) (sym c.show_next.ensures.answer ∙ c.if-not-show_next.false)
+    goes_on c.args.lines c.steps.behind c.steps.self c.show_next.new.self (g.W.Watcher.has_seen c.steps.seen) (g.W.Watcher.has_seen c.show_next.new.seen) c.show_next.ensures.state c.show_next.ensures.seen
+    (ap (λ k. pending k c.args.lines) stands.csrs ∙ free) (sym c.show_next.ensures.answer ∙ c.if-not-show_next.false)
     in
     record {
       stands = stands_next c.args.lines c.args.number c.steps.behind c.args.self.now c.steps.self c.show_next.new.self (g.W.Watcher.has_seen c.args.seen.now) (g.W.Watcher.has_seen c.steps.seen) (g.W.Watcher.has_seen c.show_next.new.seen) stands room on;
@@ -53,9 +53,9 @@ left : (g : Over) (c : goal.After-catch_up-2 g) → Standing c.args.lines c.args
 left g c = elim c.steps-test.branch [
   | else-steps-test w ↦ rw (w.self-is, w.seen-is) c.steps.invariant.stands
   | then-steps-test+then-not-show_next w ↦
-    rw (w.self-is, w.seen-is)
-    (stands_still c.args.lines c.args.number c.steps.behind c.args.self.now c.steps.self w.show_next.new.self (g.W.Watcher.has_seen c.args.seen.now) (g.W.Watcher.has_seen c.steps.seen) (g.W.Watcher.has_seen w.show_next.new.seen) c.steps.invariant.stands
-    (stays c.args.lines c.steps.behind c.steps.self w.show_next.new.self (g.W.Watcher.has_seen c.steps.seen) (g.W.Watcher.has_seen w.show_next.new.seen) w.show_next.ensures.state w.show_next.ensures.seen (free g c) (sym w.show_next.ensures.answer ∙ w.if-not-show_next.true)))
+      rw (w.self-is, w.seen-is)
+      (stands_still c.args.lines c.args.number c.steps.behind c.args.self.now c.steps.self w.show_next.new.self (g.W.Watcher.has_seen c.args.seen.now) (g.W.Watcher.has_seen c.steps.seen) (g.W.Watcher.has_seen w.show_next.new.seen) c.steps.invariant.stands
+      (stays c.args.lines c.steps.behind c.steps.self w.show_next.new.self (g.W.Watcher.has_seen c.steps.seen) (g.W.Watcher.has_seen w.show_next.new.seen) w.show_next.ensures.state w.show_next.ensures.seen (free g c) (sym w.show_next.ensures.answer ∙ w.if-not-show_next.true)))
 ]
 
 caught : (g : Over) (c : goal.After-catch_up-2 g) → c.catch_up-2.new.self ≡ caught_up c.steps.behind c.steps-test.self
@@ -73,11 +73,11 @@ last : (g : Over) (c : goal.After-catch_up-2 g) → c.steps-test.self.step + c.s
 last g c = elim c.steps-test.branch [
   | else-steps-test w ↦ λ fewer. absurd (grind (arith, fewer, w.self-is, c.steps.invariant.stands.step, c.self.view_is, w.steps-test.false, c.if-self-number.false))
   | then-steps-test+then-not-show_next w ↦
-    let still =
-        stays c.args.lines c.steps.behind c.steps.self w.show_next.new.self (g.W.Watcher.has_seen c.steps.seen) (g.W.Watcher.has_seen w.show_next.new.seen) w.show_next.ensures.state w.show_next.ensures.seen
-        (free g c) (sym w.show_next.ensures.answer ∙ w.if-not-show_next.true)
-    in
-    λ fewer. ap (λ (u : State). is_plain (caught_up c.steps.behind u) c.args.lines) (w.self-is ∙ still.state) ∙ still.plain
+      let still =
+      stays c.args.lines c.steps.behind c.steps.self w.show_next.new.self (g.W.Watcher.has_seen c.steps.seen) (g.W.Watcher.has_seen w.show_next.new.seen) w.show_next.ensures.state w.show_next.ensures.seen
+      (free g c) (sym w.show_next.ensures.answer ∙ w.if-not-show_next.true)
+      in
+      λ fewer. ap (λ (u : State). is_plain (caught_up c.steps.behind u) c.args.lines) (w.self-is ∙ still.state) ∙ still.plain
 ]
 
 pub returns-clause-stops : goal.returns-clause-stops

@@ -23,11 +23,11 @@ show-requires g c =
     let read : Some c.in-Some.instr ≡ instruction c.load-word.result = c.in-Some.ensures.read in
     elim c.match-execute_plainly.branch [
       | in-Quiet w ↦
-        rw (w.result-is, ap (λ (u : State). u.pc) c.self-2.view_is)
-        (c.requires.fits (Exec (t.step + c.args.behind) t.pc c.load-word.result w.in-Quiet.next w.in-Quiet.result access.Quiet (told_by s.registers)) (from t w.in-Quiet.next)
-        (told_found c.args.behind c.args.lines s c.load-word.result c.in-Some.instr (at 4 (done.Quiet w.in-Quiet.result w.in-Quiet.next) t) there is read w.in-Quiet.ensures))
+          rw (w.result-is, ap (λ (u : State). u.pc) c.self-2.view_is)
+          (c.requires.fits (Exec (t.step + c.args.behind) t.pc c.load-word.result w.in-Quiet.next w.in-Quiet.result access.Quiet (told_by s.registers)) (from t w.in-Quiet.next)
+          (told_found c.args.behind c.args.lines s c.load-word.result c.in-Some.instr (at 4 (done.Quiet w.in-Quiet.result w.in-Quiet.next) t) there is read w.in-Quiet.ensures))
       | in-Accessed w ↦
-        rw (w.result-is, ap (λ (u : State). u.pc) c.self-2.view_is)
-        (c.requires.fits (Exec (t.step + c.args.behind) t.pc c.load-word.result (sum t.pc 4) w.in-Accessed.result w.in-Accessed.access (told_by s.registers)) (from t (sum t.pc 4))
-        (told_found c.args.behind c.args.lines s c.load-word.result c.in-Some.instr (at 4 (done.Accessed w.in-Accessed.result w.in-Accessed.access) t) there is read w.in-Accessed.ensures))
+          rw (w.result-is, ap (λ (u : State). u.pc) c.self-2.view_is)
+          (c.requires.fits (Exec (t.step + c.args.behind) t.pc c.load-word.result (sum t.pc 4) w.in-Accessed.result w.in-Accessed.access (told_by s.registers)) (from t (sum t.pc 4))
+          (told_found c.args.behind c.args.lines s c.load-word.result c.in-Some.instr (at 4 (done.Accessed w.in-Accessed.result w.in-Accessed.access) t) there is read w.in-Accessed.ensures))
     ]
