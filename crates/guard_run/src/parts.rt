@@ -38,7 +38,7 @@ impl Parts {
     {
         let machine = Machine::new(alloc, image, script, disk, job.ram_kib, job.limit)?;
         let replicas = replicas_of(alloc, job, image)?;
-        let required = places_of(alloc, &job.kinds, &job.required)?;
+        let required = required_of(alloc, job)?;
         Ok(Parts {
             run: turn_run::Parts::new(alloc, machine, replicas, required, job.cap)?,
         })
@@ -61,6 +61,14 @@ fn replicas_of(alloc: Global, job: &RunJob, image: &Image) -> Result<Vec<Replica
         replicas.push(replica)?;
     }
     Ok(replicas)
+}
+
+// The places of the required ones among the chosen analyses.
+fn required_of(alloc: Global, job: &RunJob) -> Result<Vec<u32>, NoMemory>
+    requires { AllByRecursion (Contains job.now.kinds) job.now.required }
+    ensures { IfOk result (λ places. ArePlaces job.now.kinds job.now.required places.items) }
+{
+    places_of(alloc, &job.kinds, &job.required)
 }
 
 // The places of some kinds among others.

@@ -7,7 +7,7 @@ use Rattle.gate_core.specs.declared.verdict.Verdict.{Verdict}
 use Rattle.gate_core.specs.Hub.{HubState, approved_at, no_verdict, verdict_at}
 use Rattle.gate_core.specs.Follow.{approvals}
 use Rattle.output_gate.specs.Gate.{GateState, with_withheld}
-use Rattle.turn_run.specs.Gates.{least_approved, refusals, withheld_from}
+use Rattle.turn_run.specs.Gates.{least_approved, refusals, withheld_for, withheld_from}
 use Rattle.turn_run.proofs.LeastLaws.{least-push}
 use Rattle.turn_run.proofs.WithholdLaws.{refusals-push, withheld-push}
 
@@ -37,14 +37,13 @@ module _ (hub : HubState) (readers : List ℕ) (place : ℕ) (there : place < le
       ∙ refusals-push hub (take place readers) (slice_index readers place)
       ∙ ap (λ b. refusals hub (take place readers) ++ cond b (approved_at hub (slice_index readers place) ∷ []) []) is
 
-  pub withheld-refused : (first gate : GateState) → (verdict_at hub (slice_index readers place)).refused ≡ true → gate ≡ withheld_from (refusals hub (take place readers)) first
-      → with_withheld gate (approved_at hub (slice_index readers place)) ≡ withheld_from (refusals hub (take (place + 1) readers)) first
-  withheld-refused first gate refused before =
-      ap (λ g. with_withheld g (approved_at hub (slice_index readers place))) before
-      ∙ sym (withheld-push (refusals hub (take place readers)) (approved_at hub (slice_index readers place)) first)
-      ∙ ap (λ l. withheld_from l first) (sym (refusals-next true refused))
-
-  pub withheld-passed_on : (first gate : GateState) → (verdict_at hub (slice_index readers place)).refused ≡ false → gate ≡ withheld_from (refusals hub (take place readers)) first
-      → gate ≡ withheld_from (refusals hub (take (place + 1) readers)) first
-  withheld-passed_on first gate passed before =
-      before ∙ ap (λ l. withheld_from l first) (sym (append-nil (refusals hub (take place readers))) ∙ sym (refusals-next false passed))
+  pub withheld-next : (first gate : GateState) → gate ≡ withheld_from (refusals hub (take place readers)) first
+      → withheld_for hub (slice_index readers place) gate ≡ withheld_from (refusals hub (take (place + 1) readers)) first
+  withheld-next first gate before = by (verdict_at hub (slice_index readers place)).refused refl
+    where
+      by : (b : Bool) → (verdict_at hub (slice_index readers place)).refused ≡ b → cond b (with_withheld gate (approved_at hub (slice_index readers place))) gate ≡ withheld_from (refusals hub (take (place + 1) readers)) first
+      by true refused =
+          ap (λ g. with_withheld g (approved_at hub (slice_index readers place))) before
+          ∙ sym (withheld-push (refusals hub (take place readers)) (approved_at hub (slice_index readers place)) first)
+          ∙ ap (λ l. withheld_from l first) (sym (refusals-next true refused))
+      by false passed = before ∙ ap (λ l. withheld_from l first) (sym (append-nil (refusals hub (take place readers))) ∙ sym (refusals-next false passed))

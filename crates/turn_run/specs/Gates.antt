@@ -93,3 +93,7 @@ refusals hub (reader ∷ readers) = if (verdict_at hub reader).refused then appr
 abbrev pub withheld_from : List ℕ → GateState → GateState
 withheld_from [] gate = gate
 withheld_from (step ∷ steps) gate = withheld_from steps (with_withheld gate step)
+
+-- the gate after all from the step on was withheld that this reader refuses, where it refuses one
+abbrev pub withheld_for : HubState → ℕ → GateState → GateState
+withheld_for hub reader gate = if (verdict_at hub reader).refused then with_withheld gate (approved_at hub reader) else gate

@@ -9,7 +9,7 @@ ghost use Rattle.gate_core.specs.Hub.{approved_at, is_cap};
 ghost use Rattle.output_gate.specs.Gate.{is_full, with_failure};
 ghost use Rattle.turn_run.specs.Course.{Course, IsMarked};
 ghost use Rattle.turn_run.specs.Following.{AreSame};
-ghost use Rattle.turn_run.specs.Gates.{after_put, approved_in, has_room, least_approved, refusals, with_append_if, with_item, with_item_if, withheld_from};
+ghost use Rattle.turn_run.specs.Gates.{after_put, approved_in, has_room, least_approved, refusals, with_append_if, with_item, with_item_if, withheld_for, withheld_from};
 ghost use Rattle.turn_run.specs.Openings.{IsCourseOf, IsOpened, followers_of};
 ghost use Rattle.turn_run.specs.Runs.{HasBroken, HasReleased, IsAt, IsBesides, IsFollowed, IsFollowedRun, IsSoundRun, Lessens, LessensRead, Reads, Records};
 
@@ -225,9 +225,19 @@ fn withhold_refused(gate: &mut OutputGate, hub: &Hub, required: &[u32])
     ensures { gate.new ≡ withheld_from (refusals hub.now required.now) gate.old }
 {
     for reader in required {
-        let verdict = hub.look(*reader);
-        if verdict.refused {
-            gate.withhold(verdict.approved);
-        }
+        withhold_for(gate, hub, *reader);
+    }
+}
+
+// Withholds all from the step on that this reader refuses, where it refuses one.
+fn withhold_for(gate: &mut OutputGate, hub: &Hub, reader: u32)
+    requires there { reader < length hub.now.taken }
+    requires sound { gate.old.failed ≡ false }
+    requires passed { gate.old.passed ≤ approved_at hub.now reader }
+    ensures { gate.new ≡ withheld_for hub.now reader gate.old }
+{
+    let verdict = hub.look(reader);
+    if verdict.refused {
+        gate.withhold(verdict.approved);
     }
 }
