@@ -55,7 +55,7 @@ pub(crate) fn set_at(
 ) -> Result<(), NoMemory>
     ensures ok { OnOk result (entries.new.items
         ≡ changed_or_added (with_bytes bytes.now)
-            (with_bytes bytes.now (with_no_file name.now 0)) name.now
+        (with_bytes bytes.now (with_no_file name.now 0)) name.now
         entries.old.items) }
     ensures within { HasRoom (entry_of entries.old.items name.now) (length bytes.now)
         → IsOk result }

@@ -178,7 +178,7 @@ impl Disk {
         ensures sent { self.new.pending.sent ≡ 0 }
         ensures mark { self.new.pending.mark
             ≡ (if list_any
-                (model.holds_sector self.old.sector) self.old.sectors.items then 1 else 0) }
+            (model.holds_sector self.old.sector) self.old.sectors.items then 1 else 0) }
     {
         let at = SECTOR_BYTES * self.sector as usize;
         let sector = &self.bytes[at..at + SECTOR_BYTES];
