@@ -246,6 +246,7 @@ impl Engine {
 
     /// Does the next steps with these interrupt lines as long as they are plain ones, but at most so many, and answers
     /// how many it did.
+    #[inline(never)]
     pub fn run_plain(&mut self, lines: u8, at_most: u32) -> u32
         requires { self.old.step + at_most ≤ MOST_STEPS }
         ensures few { result ≤ at_most }

@@ -118,6 +118,7 @@ impl Machine {
     }
 
     // Runs on to the next item, which comes at the latest after a step whose number plus 1 is a multiple of 256.
+    #[inline(always)]
     fn next_item(&mut self) -> Item
         requires { is_over self.old.phase ≡ false }
         ensures { FoundNext result self.old self.new }
@@ -130,7 +131,9 @@ impl Machine {
         unreachable!()
     }
 
-    // Goes on to the next item, or to the end of the step that is to be done.
+    // Goes on to the next item, or to the end of the step that is to be done. All phases are one function in the end, so
+    // that an item is written once, where the caller wants it.
+    #[inline(always)]
     fn turn(&mut self) -> Option<Item>
         requires { is_over self.old.phase ≡ false }
         ensures { IsOneTurn result self.old self.new }
@@ -147,6 +150,7 @@ impl Machine {
     }
 
     // Begins the next step, if one is left.
+    #[inline(always)]
     fn begin(&mut self) -> Option<Item>
         requires { self.old.phase ≡ Between }
         ensures { IsOneTurn result self.old self.new }
@@ -161,6 +165,7 @@ impl Machine {
     }
 
     // Writes the next word of the disk to RAM, if one is due.
+    #[inline(always)]
     fn write_words(&mut self) -> Option<Item>
         requires { self.old.phase ≡ Words }
         ensures { IsOneTurn result self.old self.new }
@@ -178,6 +183,7 @@ impl Machine {
     }
 
     // Looks at the lines, and tells them where they have changed.
+    #[inline(always)]
     fn tell_lines(&mut self) -> Option<Item>
         requires { self.old.phase ≡ Lines }
         ensures { IsOneTurn result self.old self.new }
@@ -196,6 +202,7 @@ impl Machine {
     }
 
     // Does the step and those after it as long as they are plain ones and nothing else is due; or it is another one.
+    #[inline(always)]
     fn run_on(&mut self) -> Option<Item>
         requires { self.old.phase ≡ Asks }
         ensures { IsOneTurn result self.old self.new }
@@ -213,6 +220,7 @@ impl Machine {
     }
 
     // Does the step, or takes of the board what it has to be given.
+    #[inline(always)]
     fn ask_need(&mut self) -> Option<Item>
         requires { self.old.phase ≡ Asks }
         ensures { IsOneTurn result self.old self.new }
@@ -232,6 +240,7 @@ impl Machine {
     }
 
     // Does the step with what it was given, and tells that it is done where that is told.
+    #[inline(always)]
     fn finish(&mut self, supplied: Option<Supplied>) -> Option<Item>
         requires inside { inside self.old.phase ≡ 1 }
         requires quiet { sends self.old.phase ≡ 0 }
