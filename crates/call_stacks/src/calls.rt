@@ -1,6 +1,6 @@
 //! The analysis of calls and returns.
 ghost use Rattle.memory_map.specs.declared.TheConstants.{LEAST_RAM_KIB, MOST_RAM_KIB};
-ghost use Rattle.std.specs.Prelude.{◌≡◌, ℕ, ◌+◌, ◌*◌, ◌^◌, ◌<◌, ◌≤◌, true, List, [], ◌∷◌, ◌++◌, length, Option, IfOk};
+ghost use Rattle.std.specs.Prelude.{◌≡◌, ℕ, ◌+◌, ◌*◌, ◌^◌, ◌<◌, ◌≤◌, IsTrue, false, List, [], ◌∷◌, ◌++◌, length, Option, IfOk};
 ghost use Rattle.run_events.specs.declared.event.Event.{Event};
 ghost use Rattle.run_events.specs.declared.finding.Kind.TheVariants as kind;
 ghost use Rattle.run_events.specs.Announcement.{announced_by};
@@ -55,7 +55,7 @@ impl Watcher for Calls {
 
     #[inline(always)]
     fn try_see(&mut self, event: &Event) -> bool {
-        self.is_calm(event)
+        self.take_quiet(event)
     }
 }
 
@@ -113,17 +113,29 @@ impl Calls {
         self.unmatched
     }
 
-    // Whether the event neither calls nor returns nor enters a context, as most.
+    // Takes in an event that announces nothing, as nearly each; of another one, nothing.
     #[inline(always)]
-    fn is_calm(&self, event: &Event) -> bool
-        ensures { result ≡ true → after self.now event.now ≡ self.now }
+    fn take_quiet(&mut self, event: &Event) -> bool
+        requires { Fits self.old.ram_kib event.now }
+        ensures takes { IsTrue result → self.new ≡ after self.old event.now }
+        ensures same { result ≡ false → self.new ≡ self.old }
     {
-        match event {
-            Event::Exec { word, told, .. } => {
-                link_of_word(*word) == Link::Plain && Announcement::of(*word, *told).is_none()
-            }
-            Event::Dma { .. } | Event::Irq { .. } | Event::Trap { .. } => true,
+        let Event::Exec {
+            step,
+            pc,
+            word,
+            next,
+            told,
+            ..
+        } = event
+        else {
+            return true;
+        };
+        if Announcement::of(*word, *told).is_some() {
+            return false;
         }
+        self.follow(link_of_word(*word), *step, *pc, *next);
+        true
     }
 
     fn take_in(&mut self, event: &Event)
@@ -139,16 +151,25 @@ impl Calls {
             ..
         } = *event
         {
-            match link_of_word(word) {
-                Link::Plain => {}
-                Link::Push => self.push(pc),
-                Link::Pop => self.pop(step, pc, next),
-                Link::PopPush => {
-                    self.pop(step, pc, next);
-                    self.push(pc);
-                }
-            }
+            self.follow(link_of_word(word), step, pc, next);
             self.enter(word, told);
+        }
+    }
+
+    // Does what an instruction at `pc` does to the return addresses.
+    #[inline(always)]
+    fn follow(&mut self, link: Link, step: u32, pc: u32, next: u32)
+        requires { IsWordInRam self.old.ram_kib pc }
+        ensures { self.new ≡ moved self.old link step pc next }
+    {
+        match link {
+            Link::Plain => {}
+            Link::Push => self.push(pc),
+            Link::Pop => self.pop(step, pc, next),
+            Link::PopPush => {
+                self.pop(step, pc, next);
+                self.push(pc);
+            }
         }
     }
 
