@@ -1,12 +1,10 @@
 //! One step.
 ghost use Rattle.memory_map.specs.declared.TheConstants.{MOST_STEPS};
-ghost use Rattle.std.specs.Prelude.{◌≡◌, ℕ, ◌+◌, ◌<◌, true, false, None, Some, IsTrue};
-ghost use Rattle.rv_csr.proofs.CounterLaws.{IsSettled};
+ghost use Rattle.std.specs.Prelude.{◌≡◌, ℕ, ◌+◌, ◌<◌, true, None, Some, IsTrue};
 ghost use Rattle.rv_decode.specs.Valid.{IsValid};
 ghost use Rattle.hart_model.specs.Machine.{holds_word};
 ghost use Rattle.hart_model.specs.Step.{cpu, outcome, step_by, trapped, interrupted, touch};
 ghost use Rattle.rv_cpu.specs.Midway.{Goes, ended};
-ghost use Rattle.rv_cpu.specs.Plain.{is_plain, is_plain_decoded};
 
 use crate::atomics::is_reserved;
 use crate::done::Done;

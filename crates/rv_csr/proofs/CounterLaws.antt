@@ -1,25 +1,12 @@
 -- Steps that write no counter: how the counters stand after several of them.
-use Rattle.std.proofs.Common.{◌≡◌, ℕ, suc, ◌+◌, ◌%◌, ◌^◌, Bool, false, true, refl, arith}
+use Rattle.std.proofs.Common.{◌≡◌, ℕ, suc, ◌+◌, ◌%◌, ◌^◌, false, true, arith}
 use Rattle.rv_csr.specs.declared.csrs.Csrs.{Csrs}
 use Rattle.rv_csr.specs.Traps.{counted}
-
--- no counter was written since the last step ended
-pub record IsSettled (c : Csrs) : Type 0 where
-  pub mcycle : c.mcycle_written ≡ false
-  pub minstret : c.minstret_written ≡ false
-
--- so they are at the end of each step
-pub counted_settled : (c : Csrs) (retired : Bool) → IsSettled (counted c retired)
-counted_settled c retired = record { mcycle = refl; minstret = refl }
 
 -- the counters after so many steps that retired an instruction and wrote no counter
 abbrev pub counted_by : ℕ → Csrs → Csrs
 counted_by steps c =
     record c { mcycle = (c.mcycle + steps) % 2 ^ 64; minstret = (c.minstret + steps) % 2 ^ 64; mcycle_written = false; minstret_written = false }
-
--- after one
-pub counted_once : (c : Csrs) → IsSettled c → counted c true ≡ counted_by 1 c
-counted_once c settled = grind (arith, settled.mcycle, settled.minstret)
 
 -- a counter that rises once more
 once_more : (counter steps : ℕ) → ((counter + steps) % 2 ^ 64 + 1) % 2 ^ 64 ≡ (counter + suc steps) % 2 ^ 64
