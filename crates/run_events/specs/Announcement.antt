@@ -1,10 +1,14 @@
 -- What a guest announces.
-use Rattle.std.specs.Prelude.{ℕ, ◌+◌, ◌*◌, ◌^◌, ◌==◌, Option, None, Some, if◌then◌else◌}
+use Rattle.std.specs.Prelude.{ℕ, ◌+◌, ◌*◌, ◌%◌, ◌^◌, ◌==◌, Bool, Option, None, Some, if◌then◌else◌}
 use Rattle.run_events.specs.declared.access.Told.{Told}
 use Rattle.run_events.specs.declared.announcement.Announcement.{Announcement}
 use Rattle.run_events.specs.declared.announcement.Announcement.TheVariants.{Allocate, Free, Acquire, Release, Enter, Check, Guard}
 use Rattle.run_events.specs.declared.event.Event.{Event}
 use Rattle.run_events.specs.declared.event.Event.TheVariants.{Dma, Irq, Trap, Exec}
+
+-- the word is slti x0, x0, k for some k: its low 20 bits are those of that instruction
+abbrev pub is_idle_compare : ℕ → Bool
+is_idle_compare word = word % 2 ^ 20 == 8211
 
 -- the word of slti x0, x0, k
 abbrev pub announcing : ℕ → ℕ

@@ -1,6 +1,7 @@
 //! What a guest announces to the analyses.
-ghost use Rattle.std.specs.Prelude.{◌≡◌};
-ghost use Rattle.run_events.specs.Announcement.{announced_by};
+ghost use Rattle.std.specs.Prelude.{◌≡◌, None, false};
+ghost use Rattle.run_events.specs.declared.access.Told.{Told as Arguments};
+ghost use Rattle.run_events.specs.Announcement.{announced_by, is_idle_compare};
 
 use crate::Told;
 
@@ -26,16 +27,26 @@ pub enum Announcement {
 
 impl Announcement {
     /// What the instruction `word` announces; none where it is no `slti x0, x0, k` with k from 1 to 7.
-    #[tactic(auto, using(crate::proofs::AnnouncementLaws::announced_by_none))]
     #[inline(always)]
     pub fn of(word: u32, told: Told) -> Option<Announcement>
         ensures { result ≡ announced_by word told }
     {
-        if word % 0x10_0000 != 0x2013 {
+        if !may_announce(word) {
             return None;
         }
         of_number(word, told)
     }
+}
+
+/// Whether the instruction `word` is `slti x0, x0, k` for some k. No other announces anything. It is one compare, for those
+/// who look at each event.
+#[tactic(auto, using(crate::proofs::AnnouncementLaws::announced_by_none))]
+#[inline(always)]
+pub fn may_announce(word: u32) -> bool
+    ensures form { result ≡ is_idle_compare word }
+    ensures none { result ≡ false → (told : Arguments) → announced_by word told ≡ None }
+{
+    word % 0x10_0000 == 0x2013
 }
 
 #[tactic(auto, unfolding(crate::specs::Announcement::announced_by))]

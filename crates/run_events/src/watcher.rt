@@ -25,8 +25,8 @@ pub trait Watcher {
         ensures size { ram_kib self.new ≡ ram_kib self.old }
         ensures made { make self.new ≡ make self.old };
 
-    /// Looks at the next event where that takes no more than a few compares. Where it answers false it is as before, and
-    /// `see` looks at the event.
+    /// Looks at the next event, where there is a short way to do so. Where it answers false it is as before, and `see` has
+    /// to look at the event.
     #[inline(always)]
     fn try_see(&mut self, event: &Event) -> bool
         requires { Fits (ram_kib self.old) event.now }
