@@ -98,6 +98,11 @@ no_program : events 3 (started []) ≡ Trap 0 0x80000000 0 2 0 0 ∷ Trap 1 0 0 
 unfolding cpu outcome step_by Listing.instruction Listing.rows events
 no_program = refl
 
+-- a jump by 2 bytes goes to where no instruction begins
+half_way : events 1 (started (0x0020006f ∷ [])) ≡ Trap 0 0x80000000 0x0020006f 0 0x80000002 0 ∷ []
+unfolding cpu outcome step_by Listing.instruction Listing.rows events
+half_way = refl
+
 -- The handler's address 0x80000040 goes to mtvec, the timer's interrupt is enabled in mie, mtimecmp gets a value, and
 -- mstatus.MIE is set; then the program waits in a jump to itself. At the handler it stores 0 to the power register.
 abbrev waiting : State

@@ -3,7 +3,7 @@ use Rattle.std.proofs.Common.{◌≡◌, ℕ, ◌+◌, ◌-◌, ◌^◌, List, [
 use Rattle.memory_map.specs.declared.TheConstants.{RAM_START, MTIMECMP_LOW, MTIMECMP_HIGH, MTIME_LOW, MTIME_HIGH, SERIAL_DATA, SERIAL_STATUS, SERIAL_CTRL, DISK_SECTOR, DISK_ADDR, DISK_CMD, DISK_STATUS, DISK_CTRL, DISK_COUNT}
 use Rattle.run_events.specs.declared.supply.DmaWord.{DmaWord}
 use Rattle.machine_model.specs.Script.{Script, Serial, Tick, Latency}
-use Rattle.machine_model.specs.Board.{BoardState, reset_board, given_at, after_load, after_store, board_lines, words_before, at_step, words_of, mtime, latency}
+use Rattle.machine_model.specs.Board.{CompareLow, CompareHigh, TimeLow, TimeHigh, SerialData, SerialStatus, SerialControl, DiskSector, DiskAddress, DiskCommand, DiskStatus, DiskControl, DiskCount, Power, registers, BoardState, reset_board, given_at, after_load, after_store, board_lines, words_before, at_step, words_of, mtime, latency}
 
 -- what a step does to the board
 data Deed : Type 0 where
@@ -263,3 +263,23 @@ word_read_back = refl
 number_of_sectors : value quick 0 (reset_board two_sectors) DISK_COUNT ≡ 2
 unfolding quick two_sectors value
 number_of_sectors = refl
+
+-- THE REGISTERS BY THEIR NUMBERS
+
+addresses : registers
+    ≡ (0x02004000, CompareLow)
+    ∷ (0x02004004, CompareHigh)
+    ∷ (0x0200BFF8, TimeLow)
+    ∷ (0x0200BFFC, TimeHigh)
+    ∷ (0x10000000, SerialData)
+    ∷ (0x10000004, SerialStatus)
+    ∷ (0x10000008, SerialControl)
+    ∷ (0x10001000, DiskSector)
+    ∷ (0x10001004, DiskAddress)
+    ∷ (0x10001008, DiskCommand)
+    ∷ (0x1000100C, DiskStatus)
+    ∷ (0x10001010, DiskControl)
+    ∷ (0x10001014, DiskCount)
+    ∷ (0x10100000, Power)
+    ∷ []
+addresses = refl
