@@ -26,7 +26,7 @@ use Rattle.turn_run.specs.Closings as turns
 use Rattle.turn_run.specs.Endings.{end_in, end_back}
 use Rattle.guard_run.specs.declared.closing.Closing.{Closing}
 use Rattle.guard_run.specs.declared.replica.Replica.{Replica}
-use Rattle.guard_run.specs.Closings.{Closes, HasRead, IsCutRun, IsWholeRun, facts_with, replicas_of}
+use Rattle.guard_run.specs.Closings.{Closes, HasFollowed, IsCutRun, IsWholeRun, facts_with, replicas_of}
 use Rattle.guard_run.specs.Jobs.{course_of}
 use Rattle.guard_run.specs.Openings.{AreReplicas}
 use Rattle.guard_run.specs.Replicas.{HasTaken, Make, make_now, replicas_follow}
@@ -46,7 +46,7 @@ made_at job places replicas number kind replica are there here =
     some_same is = cc
 
 has_read : (job : Job) (kind : Kind) (records : List Record) (shown : List Event) (replica : Replica) → shown_of job.image job.ram_kib records ≡ shown → make_now replica ≡ record { image = job.image; ram_kib = job.ram_kib; kind = kind } → HasTaken replica records
-    → HasRead job kind records shown replica (verdict_on replica.image replica.ram_kib replica.kind records)
+    → HasFollowed job kind records shown replica (verdict_on replica.image replica.ram_kib replica.kind records)
 has_read job kind records shown replica all made taken = record {
   made = made;
   taken = taken;
@@ -70,14 +70,14 @@ module _ (job : Job) (places : List ℕ) (closing : Closing) (are : AreReplicas 
         replicas = closed.followers ∙ limits;
         each = λ number kind replica there here. (
             let followed = closed.each number replica here in
-            subst (λ l. HasRead job kind l shown replica (turns.posted_of closing.over number)) is
-            (subst (HasRead job kind (turns.records_of some) shown replica) (sym followed.posted)
+            subst (λ l. HasFollowed job kind l shown replica (turns.posted_of closing.over number)) is
+            (subst (HasFollowed job kind (turns.records_of some) shown replica) (sym followed.posted)
             (has_read job kind (turns.records_of some) shown replica (ap (shown_of job.image job.ram_kib) is ∙ all) (made_at job places (replicas_of closing) number kind replica are there here) followed.taken)));
         ending = closed.ending ∙ ap end_in is;
       }
 
   -- a whole run
-  pub closes_whole : turns.ClosesWhole replicas_follow (course_of job places) closing.over → IsWholeRun job closing
+  pub closes_whole : turns.IsWholeRun replicas_follow (course_of job places) closing.over → IsWholeRun job closing
   closes_whole whole =
       let run = finished job in
       let marked = are.runnable.marked in
@@ -96,17 +96,17 @@ module _ (job : Job) (places : List ℕ) (closing : Closing) (are : AreReplicas 
       }
 
   -- a run that a failed put has ended
-  pub closes_cut : (count put : ℕ) → turns.ClosesFront replicas_follow (course_of job places) count put closing.over → IsCutRun job count put closing
-  closes_cut count put front =
+  pub closes_cut : (count put : ℕ) → turns.IsCutRun replicas_follow (course_of job places) count put closing.over → IsCutRun job count put closing
+  closes_cut count put cut =
       let run = finished job in
       let marked = are.runnable.marked in
       let prefix : turns.records_of (take count (items run)) ≡ take count (log run) = sym (take-map (λ (i : Item). i.item) count (items run)) ∙ ap (take count) (job_items job) in
       let long : length (items run) ≡ length (log run) = sym (length-map (items run) (λ (i : Item). i.item)) ∙ ap length (job_items job) in
       record {
-        within = omega (arith, front.within, long);
+        within = omega (arith, cut.within, long);
         closes =
             closes (take count (items run)) (take count (log run)) _ prefix
-            (shown_by_steps hart (λ (s : State). s.step) hart_counts (first_state job) run (take count (log run)) refl (job_runs job marked) (take_IsPrefix count (log run))) front.closes;
-        released = front.released;
-        there = omega (arith, front.there, ap length (course_let_out job places are.required count));
+            (shown_by_steps hart (λ (s : State). s.step) hart_counts (first_state job) run (take count (log run)) refl (job_runs job marked) (take_IsPrefix count (log run))) cut.closes;
+        released = cut.released;
+        there = omega (arith, cut.there, ap length (course_let_out job places are.required count));
       }

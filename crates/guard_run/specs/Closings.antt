@@ -76,7 +76,7 @@ pub record IsAnalysisAt (closing : Closing) (number : ℕ) (analysis : AnyAnalys
 
 -- A replica of a job with an analysis of this kind has taken these records: it replayed them for the job's guest, its
 -- analysis stands for these events, which they show, and what it says of them is posted.
-pub record HasRead (job : Job) (kind : Kind) (items : List Record) (shown : List Event) (replica : Replica) (verdict : Verdict) : Type 0 where
+pub record HasFollowed (job : Job) (kind : Kind) (items : List Record) (shown : List Event) (replica : Replica) (verdict : Verdict) : Type 0 where
   pub made : make_now replica ≡ record { image = job.image; ram_kib = job.ram_kib; kind = kind }
   pub taken : HasTaken replica items
   pub seen : HasSeen (analysis_of replica) shown
@@ -93,7 +93,7 @@ pub record Closes (job : Job) (items : List Record) (shown : List Event) (closin
   pub readers : readers_of closing ≡ length job.kinds
   pub taken : (number : ℕ) → number < length job.kinds → taken_of closing number ≡ length items
   pub replicas : length (replicas_of closing) ≡ length job.kinds
-  pub each : (number : ℕ) (kind : Kind) (replica : Replica) → slice_get job.kinds number ≡ Some kind → slice_get (replicas_of closing) number ≡ Some replica → HasRead job kind items shown replica (posted_of closing number)
+  pub each : (number : ℕ) (kind : Kind) (replica : Replica) → slice_get job.kinds number ≡ Some kind → slice_get (replicas_of closing) number ≡ Some replica → HasFollowed job kind items shown replica (posted_of closing number)
   pub ending : turns.ending_of closing.over ≡ end_in items
 
 -- The closing of a run that went to its end: its list is the job's log, each analysis stands for all events, the facts are
