@@ -12,7 +12,7 @@ use Rattle.run_events.specs.declared.record.EndCause.{EndCause}
 use Rattle.run_events.specs.declared.record.EndCause.TheVariants.{Power, Limit}
 use Rattle.analysis_model.specs.Calls.{unmatched_count}
 use Rattle.analysis_model.specs.Complaints.{Guest, findings}
-use Rattle.analysis_model.specs.Cover.{Span, executed_pcs, executed_ranges}
+use Rattle.analysis_model.specs.Cover.{CodeRange, executed_pcs, executed_ranges}
 use Rattle.analysis_model.specs.Findings.{first_step, stopping, tally, kept}
 
 -- one line: its text, and a line feed
@@ -90,9 +90,9 @@ findings_line kind count first =
 unfoldable pub pcs_line : ℕ → ℕ → List ℕ
 pcs_line pcs ranges = line (codes "cover pcs " ++ decimal pcs ++ codes " ranges " ++ decimal ranges)
 
-unfoldable pub range_line : Span → List ℕ
-range_line span =
-    line (codes "cover range " ++ hexadecimal span.from ++ codes " " ++ hexadecimal span.to)
+unfoldable pub range_line : CodeRange → List ℕ
+range_line range =
+    line (codes "cover range " ++ hexadecimal range.from ++ codes " " ++ hexadecimal range.to)
 
 unfoldable pub finding_line : Kind → Finding → List ℕ
 finding_line kind f =
@@ -103,7 +103,7 @@ unfoldable pub unmatched_line : ℕ → List ℕ
 unmatched_line count = line (codes "calls unmatched " ++ decimal count)
 
 -- of coverage: the pc values, and the first 64 ranges
-unfoldable pub ranges_text : ℕ → List Span → List ℕ
+unfoldable pub ranges_text : ℕ → List CodeRange → List ℕ
 ranges_text pcs ranges = pcs_line pcs (length ranges) ++ flat_map range_line (take 64 ranges)
 
 -- what an analysis of this kind tells of a guest's events beside its findings
