@@ -10,6 +10,7 @@ use Rattle.run_events.specs.declared.finding.Kind.{Kind}
 use Rattle.run_events.specs.declared.finding.Kind.TheVariants.{Heap, Taint, Calls, Cover, Locks}
 use Rattle.run_events.specs.declared.record.EndCause.{EndCause}
 use Rattle.run_events.specs.declared.record.EndCause.TheVariants.{Power, Limit}
+use Rattle.analysis_model.specs.declared.facts.RunFacts.{RunFacts}
 use Rattle.analysis_model.specs.Calls.{unmatched_count}
 use Rattle.analysis_model.specs.Complaints.{Guest, findings}
 use Rattle.analysis_model.specs.Cover.{CodeRange, executed_pcs, executed_ranges}
@@ -26,14 +27,6 @@ hexadecimal n =
     ∷ digit_glyph false (n / 2 ^ 20 % 16) ∷ digit_glyph false (n / 2 ^ 16 % 16)
     ∷ digit_glyph false (n / 2 ^ 12 % 16) ∷ digit_glyph false (n / 2 ^ 8 % 16)
     ∷ digit_glyph false (n / 2 ^ 4 % 16) ∷ digit_glyph false (n % 16) ∷ []
-
--- what the head of the report tells of a run: steps, end, bytes issued and released, records
-pub record Facts : Type 0 where
-  pub steps : ℕ
-  pub end : EndCause
-  pub issued : ℕ
-  pub released : ℕ
-  pub items : ℕ
 
 unfoldable pub title_line : List ℕ
 title_line = line (codes "== aftersight report")
@@ -53,7 +46,7 @@ unfoldable pub records_line : ℕ → List ℕ
 records_line items = line (codes "records " ++ decimal items)
 
 -- the first six lines, of which the first is empty
-unfoldable pub head_text : Facts → List ℕ
+unfoldable pub head_text : RunFacts → List ℕ
 head_text f =
     line [] ++ title_line ++ steps_line f.steps ++ end_line f.end ++ output_line f.issued f.released
     ++ records_line f.items

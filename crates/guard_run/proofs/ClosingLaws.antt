@@ -17,11 +17,10 @@ use Rattle.any_machine.proofs.ShownBySteps.{shown_by_steps}
 use Rattle.hart_model.specs.Machine.{hart}
 use Rattle.hart_model.specs.State.{State}
 use Rattle.hart_model.proofs.CountLaws.{hart_counts}
-use Rattle.analysis_model.specs.Report.{Facts}
+use Rattle.analysis_model.specs.declared.facts.RunFacts.{RunFacts}
 use Rattle.job_model.specs.Job.{Job, events, finished, first_refused, guest, released}
 use Rattle.job_model.specs.Text.{facts}
 use Rattle.job_model.proofs.RunLaws.{first_state, job_items, job_output, job_runs}
-use Rattle.analysis_set.specs.Head.{facts_of}
 use Rattle.turn_run.specs.Closings as turns
 use Rattle.turn_run.specs.Endings.{end_in, end_back}
 use Rattle.guard_run.specs.declared.closing.Closing.{Closing}
@@ -81,8 +80,8 @@ module _ (job : Job) (places : List ℕ) (closing : Closing) (are : AreReplicas 
   closes_whole whole =
       let run = finished job in
       let marked = are.runnable.marked in
-      let told : Facts = facts job in
-      let fill : ℕ → ℕ → ℕ → Facts = λ issued out count. record { steps = run.steps; end = run.cause; issued = issued; released = out; items = count } in
+      let told : RunFacts = facts job in
+      let fill : ℕ → ℕ → ℕ → RunFacts = λ issued out count. record { steps = run.steps; end = run.cause; issued = issued; released = out; items = count } in
       let closed = closes (items run) (log run) (events job) (job_items job) (shown_whole hart (first_state job) run (job_runs job marked)) whole.closes in
       let ends : turns.ending_of closing.over ≡ Some (record { steps = run.steps; cause = run.cause }) = closed.ending ∙ ap end_back (reverse-last (turns_log 0 0 run.turns) (End run.steps run.cause)) in
       let issued : turns.issued_of closing.over ≡ told.issued = whole.closes.issued ∙ ap length (job_output job marked) in
@@ -90,7 +89,7 @@ module _ (job : Job) (places : List ℕ) (closing : Closing) (are : AreReplicas 
       record {
         closes = closed;
         facts =
-            ap (λ o. option_map facts_of (option_map (facts_with closing) o)) ends
+            ap (option_map (facts_with closing)) ends
             ∙ ap Some (ap (λ n. fill n (turns.released_of closing.over) (turns.appended_of closing.over)) issued ∙ ap (λ n. fill told.issued n (turns.appended_of closing.over)) out ∙ ap (fill told.issued told.released) closed.appended);
         none = whole.none;
       }

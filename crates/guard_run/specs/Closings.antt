@@ -7,14 +7,13 @@ use Rattle.run_events.specs.declared.record.Record.{Record}
 use Rattle.run_events.specs.Record.{dmas_at, reach}
 use Rattle.any_machine.specs.Log.{log}
 use Rattle.any_machine.specs.Run.{events_before, words_before}
+use Rattle.analysis_model.specs.declared.facts.RunFacts.{RunFacts}
 use Rattle.analysis_model.specs.Made.{make_of}
 use Rattle.gate_core.specs.declared.verdict.Verdict.{Verdict}
 use Rattle.job_model.specs.Job.{Job, events, finished}
 use Rattle.job_model.specs.Text.{facts}
 use Rattle.analysis_set.specs.declared.any_analysis.AnyAnalysis.{AnyAnalysis}
-use Rattle.analysis_set.specs.declared.head.RunFacts.{RunFacts}
 use Rattle.analysis_set.specs.Analysis.{HasSeen, kib_of, made_of}
-use Rattle.analysis_set.specs.Head.{facts_of}
 use Rattle.turn_run.specs.declared.ending.Ending.{Ending}
 use Rattle.turn_run.specs.Closings as turns
 use Rattle.turn_run.specs.Endings.{end_in}
@@ -100,7 +99,7 @@ pub record Closes (job : Job) (items : List Record) (shown : List Event) (closin
 -- the job's, and the gate holds no byte.
 pub record IsWholeRun (job : Job) (closing : Closing) : Type 0 where
   pub closes : Closes job (log (finished job)) (events job) closing
-  pub facts : option_map facts_of (facts_at closing) ≡ Some (facts job)
+  pub facts : facts_at closing ≡ Some (facts job)
   pub none : waiting_of closing ≡ []
 
 -- the events that some of a job's records reach: those of the steps below, and the words of the step that follows whose
