@@ -3,7 +3,6 @@ ghost use Rattle.std.specs.Prelude.{is_err, ◌≡◌, ◌≤◌, ◌++◌, leng
 ghost use Rattle.std.specs.List.{flat_map};
 ghost use Rattle.after_edge.specs.Sink.{Writes, WritesPart};
 ghost use Rattle.analysis_model.specs.Report.{head_text, part_text};
-ghost use Rattle.analysis_set.specs.Head.{facts_of};
 ghost use Rattle.guard_run.specs.Closings.{IsWholeRun};
 ghost use Rattle.guard_run.specs.Jobs.{IsRunnable, job_of};
 ghost use Rattle.job_model.specs.Job.{Job, events, guest};
@@ -12,7 +11,8 @@ ghost use Rattle.run_settings.specs.Patterns.{IsPattern};
 ghost use Rattle.after_cli.specs.JobEnds.{IsOver, JobEnds};
 
 use after_edge::{Failed, Sink};
-use analysis_set::{Analysis, RunFacts, report_head, report_part};
+use analysis_model::RunFacts;
+use analysis_set::{Analysis, report_head, report_part};
 use guard_run::{Closing, Parts, RunJob, run_turns};
 use run_events::EndCause;
 use run_inputs::Inputs;
@@ -54,10 +54,10 @@ fn write_report<O: Sink>(
 ) -> Result<(), Failed>
     requires { IsOver count closing.now }
     ensures ok { OnOk result ((job : Job) → IsWholeRun job closing.now →
-        Writes O.told out.old out.new (head_text (facts_of facts.now)
+        Writes O.told out.old out.new (head_text facts.now
         ++ flat_map (part_text (guest job) (events job)) job.kinds)) }
     ensures err { OnErr result ((job : Job) → IsWholeRun job closing.now →
-        WritesPart O.told out.old out.new (head_text (facts_of facts.now)
+        WritesPart O.told out.old out.new (head_text facts.now
         ++ flat_map (part_text (guest job) (events job)) job.kinds)) }
 {
     report_head(facts, out)?;

@@ -6,14 +6,14 @@ use Rattle.run_events.specs.declared.event.Event.{Event}
 use Rattle.run_events.specs.declared.event.Event.TheVariants.{Dma, Irq, Trap, Exec}
 use Rattle.run_events.specs.declared.finding.Kind.TheVariants as kind
 use Rattle.analysis_model.specs.Complaints.{Guest, complaint, findings}
-use Rattle.analysis_model.specs.Cover.{Span, is_within, bad_pc, cover, outside}
+use Rattle.analysis_model.specs.Cover.{CodeRange, is_within, bad_pc, cover, outside}
 use Rattle.analysis_model.specs.Look.{finding_of, found_at, told_after}
 
 at_pc : (b : Bool) (event : Event) (pc : ℕ) → option_map (finding_of event) (cond b None (Some (bad_pc pc))) ≡ cond b None (Some (finding_of event (bad_pc pc)))
 at_pc true event pc = refl
 at_pc false event pc = refl
 
-outside-cover : (code : List Span) (event : Event) → option_map (finding_of event) (cover code event) ≡ outside code event
+outside-cover : (code : List CodeRange) (event : Event) → option_map (finding_of event) (cover code event) ≡ outside code event
 outside-cover code (Dma step address word mark) = refl
 outside-cover code (Irq step pc cause next) = refl
 outside-cover code (Trap step pc word cause value next) = at_pc (is_within code pc) (Trap step pc word cause value next) pc

@@ -5,7 +5,7 @@ use Rattle.run_events.specs.declared.finding.Finding.{Finding}
 use Rattle.run_events.specs.declared.finding.Kind.{Kind}
 use Rattle.run_events.specs.declared.finding.Kind.TheVariants as kind
 use Rattle.analysis_model.specs.Calls.{calls}
-use Rattle.analysis_model.specs.Cover.{Span, cover}
+use Rattle.analysis_model.specs.Cover.{CodeRange, cover}
 use Rattle.analysis_model.specs.Heap.{heap}
 use Rattle.analysis_model.specs.Locks.{locks}
 use Rattle.analysis_model.specs.Look.{Complaint, told_at, found_at}
@@ -14,7 +14,7 @@ use Rattle.analysis_model.specs.Taint.{taint}
 -- what findings depend on beside the events: where the guest's code is, the RAM size in KiB, how many frames are kept of
 -- a context, and how many locks and guarded ranges count
 pub record Guest : Type 0 where
-  pub code : List Span
+  pub code : List CodeRange
   pub ram_kib : ℕ
   pub frames : ℕ
   pub locks : ℕ

@@ -19,63 +19,63 @@ abbrev pub executed_pcs : List Event → List ℕ
 executed_pcs events = ascending (filter_map executed_pc events)
 
 -- a range of addresses, its end exclusive
-pub record Span : Type 0 where
+pub record CodeRange : Type 0 where
   pub from : ℕ
   pub to : ℕ
 
 -- a word of four bytes before ranges in ascending order: one with the first range where they touch
-abbrev pub joined : ℕ → List Span → List Span
+abbrev pub joined : ℕ → List CodeRange → List CodeRange
 joined pc [] = record { from = pc; to = pc + 4 } ∷ []
-joined pc (span ∷ spans) =
-    if pc + 4 == span.from then record { from = pc; to = span.to } ∷ spans
-    else record { from = pc; to = pc + 4 } ∷ span ∷ spans
+joined pc (range ∷ ranges) =
+    if pc + 4 == range.from then record { from = pc; to = range.to } ∷ ranges
+    else record { from = pc; to = pc + 4 } ∷ range ∷ ranges
 
 -- the maximal runs of the bytes [pc, pc + 4), for pc values in ascending order
-abbrev pub runs : List ℕ → List Span
+abbrev pub runs : List ℕ → List CodeRange
 runs [] = []
 runs (pc ∷ pcs) = joined pc (runs pcs)
 
 -- the executed ranges of a run, ascending
-abbrev pub executed_ranges : List Event → List Span
+abbrev pub executed_ranges : List Event → List CodeRange
 executed_ranges events = runs (executed_pcs events)
 
 -- the addresses of an executable segment
-abbrev pub spans_of : List Segment → List Span
-spans_of [] = []
-spans_of (segment ∷ segments) =
+abbrev pub ranges_of : List Segment → List CodeRange
+ranges_of [] = []
+ranges_of (segment ∷ segments) =
     if segment.executable
     then record { from = segment.address; to = segment.address + segment.size }
-    ∷ spans_of segments
-    else spans_of segments
+    ∷ ranges_of segments
+    else ranges_of segments
 
-abbrev pub executable_spans : Image → List Span
-executable_spans image = spans_of image.segments
+abbrev pub executable_ranges : Image → List CodeRange
+executable_ranges image = ranges_of image.segments
 
--- an address lies in some span
-abbrev pub is_within : List Span → ℕ → Bool
-is_within spans address =
-    list_any (λ span. nat_le span.from address && nat_lt address span.to) spans
+-- an address lies in some range
+abbrev pub is_within : List CodeRange → ℕ → Bool
+is_within ranges address =
+    list_any (λ range. nat_le range.from address && nat_lt address range.to) ranges
 
 abbrev pub bad_pc : ℕ → Complaint
 bad_pc pc = record { kind = Outside; address = pc }
 
-abbrev pub cover_at : List Span → ℕ → Option Complaint
+abbrev pub cover_at : List CodeRange → ℕ → Option Complaint
 cover_at code pc = if is_within code pc then None else Some (bad_pc pc)
 
 -- an instruction was executed, or raised an exception, at a pc in no executable segment
-abbrev pub cover : List Span → Event → Option Complaint
+abbrev pub cover : List CodeRange → Event → Option Complaint
 cover code (Dma step address word mark) = None
 cover code (Irq step pc cause next) = None
 cover code (Trap step pc word cause value next) = cover_at code pc
 cover code (Exec step pc word next result access told) = cover_at code pc
 
-abbrev pub outside_at : List Span → ℕ → ℕ → Option Finding
+abbrev pub outside_at : List CodeRange → ℕ → ℕ → Option Finding
 outside_at code step pc =
     if is_within code pc then None
     else Some (record { step = step; pc = pc; kind = Outside; address = pc })
 
 -- the finding `outside`: an instruction was executed, or raised an exception, at a pc in no executable segment
-abbrev pub outside : List Span → Event → Option Finding
+abbrev pub outside : List CodeRange → Event → Option Finding
 outside code (Dma step address word mark) = None
 outside code (Irq step pc cause next) = None
 outside code (Trap step pc word cause value next) = outside_at code step pc

@@ -6,7 +6,7 @@ use Rattle.run_events.specs.declared.finding.Kind.TheVariants.{Heap, Taint, Call
 use Rattle.machine_model.specs.Image.{Image, Segment}
 use Rattle.analysis_model.specs.Calls.{frames_kept}
 use Rattle.analysis_model.specs.Complaints.{Guest}
-use Rattle.analysis_model.specs.Cover.{Span, executable_spans}
+use Rattle.analysis_model.specs.Cover.{CodeRange, executable_ranges}
 use Rattle.analysis_model.specs.Locks.{locks_kept}
 
 abbrev pub code_numbers : List Segment → List ℕ
@@ -37,15 +37,15 @@ kind_made_of [] = Heap
 kind_made_of (kind ∷ numbers) = kind_numbered kind
 
 -- addresses and sizes, read back
-abbrev pub spans_made_of : List ℕ → List Span
-spans_made_of [] = []
-spans_made_of (address ∷ []) = []
-spans_made_of (address ∷ size ∷ numbers) =
-    record { from = address; to = address + size } ∷ spans_made_of numbers
+abbrev pub ranges_made_of : List ℕ → List CodeRange
+ranges_made_of [] = []
+ranges_made_of (address ∷ []) = []
+ranges_made_of (address ∷ size ∷ numbers) =
+    record { from = address; to = address + size } ∷ ranges_made_of numbers
 
-abbrev pub code_made_of : List ℕ → List Span
+abbrev pub code_made_of : List ℕ → List CodeRange
 code_made_of [] = []
-code_made_of (kind ∷ numbers) = spans_made_of numbers
+code_made_of (kind ∷ numbers) = ranges_made_of numbers
 
 -- a guest of so many KiB of RAM whose analysis is made of these, at the sizes that analyses have
 abbrev pub guest_made_of : ℕ → List ℕ → Guest
@@ -59,7 +59,7 @@ guest_made_of ram_kib made = record {
 -- the guest of an image, at these sizes
 abbrev pub guest_of : Image → ℕ → Guest
 guest_of image ram_kib = record {
-  code = executable_spans image;
+  code = executable_ranges image;
   ram_kib = ram_kib;
   frames = frames_kept;
   locks = locks_kept;

@@ -10,9 +10,10 @@ use Rattle.run_events.specs.declared.finding.Kind.{Kind}
 use Rattle.run_events.specs.declared.finding.Kind.TheVariants.{Heap, Taint, Calls, Cover, Locks}
 use Rattle.run_events.specs.declared.record.EndCause.{EndCause}
 use Rattle.run_events.specs.declared.record.EndCause.TheVariants.{Power, Limit}
+use Rattle.analysis_model.specs.declared.facts.RunFacts.{RunFacts}
 use Rattle.analysis_model.specs.Calls.{unmatched_count}
 use Rattle.analysis_model.specs.Complaints.{Guest, findings}
-use Rattle.analysis_model.specs.Cover.{Span, executed_pcs, executed_ranges}
+use Rattle.analysis_model.specs.Cover.{CodeRange, executed_pcs, executed_ranges}
 use Rattle.analysis_model.specs.Findings.{first_step, stopping, tally, kept}
 
 -- one line: its text, and a line feed
@@ -26,14 +27,6 @@ hexadecimal n =
     ∷ digit_glyph false (n / 2 ^ 20 % 16) ∷ digit_glyph false (n / 2 ^ 16 % 16)
     ∷ digit_glyph false (n / 2 ^ 12 % 16) ∷ digit_glyph false (n / 2 ^ 8 % 16)
     ∷ digit_glyph false (n / 2 ^ 4 % 16) ∷ digit_glyph false (n % 16) ∷ []
-
--- what the head of the report tells of a run: steps, end, bytes issued and released, records
-pub record Facts : Type 0 where
-  pub steps : ℕ
-  pub end : EndCause
-  pub issued : ℕ
-  pub released : ℕ
-  pub items : ℕ
 
 unfoldable pub title_line : List ℕ
 title_line = line (codes "== aftersight report")
@@ -53,7 +46,7 @@ unfoldable pub records_line : ℕ → List ℕ
 records_line items = line (codes "records " ++ decimal items)
 
 -- the first six lines, of which the first is empty
-unfoldable pub head_text : Facts → List ℕ
+unfoldable pub head_text : RunFacts → List ℕ
 head_text f =
     line [] ++ title_line ++ steps_line f.steps ++ end_line f.end ++ output_line f.issued f.released
     ++ records_line f.items
@@ -90,9 +83,9 @@ findings_line kind count first =
 unfoldable pub pcs_line : ℕ → ℕ → List ℕ
 pcs_line pcs ranges = line (codes "cover pcs " ++ decimal pcs ++ codes " ranges " ++ decimal ranges)
 
-unfoldable pub range_line : Span → List ℕ
-range_line span =
-    line (codes "cover range " ++ hexadecimal span.from ++ codes " " ++ hexadecimal span.to)
+unfoldable pub range_line : CodeRange → List ℕ
+range_line range =
+    line (codes "cover range " ++ hexadecimal range.from ++ codes " " ++ hexadecimal range.to)
 
 unfoldable pub finding_line : Kind → Finding → List ℕ
 finding_line kind f =
@@ -103,7 +96,7 @@ unfoldable pub unmatched_line : ℕ → List ℕ
 unmatched_line count = line (codes "calls unmatched " ++ decimal count)
 
 -- of coverage: the pc values, and the first 64 ranges
-unfoldable pub ranges_text : ℕ → List Span → List ℕ
+unfoldable pub ranges_text : ℕ → List CodeRange → List ℕ
 ranges_text pcs ranges = pcs_line pcs (length ranges) ++ flat_map range_line (take 64 ranges)
 
 -- what an analysis of this kind tells of a guest's events beside its findings

@@ -7,7 +7,7 @@ use Rattle.run_events.specs.declared.finding.Kind.TheVariants.{Heap, Taint, Call
 use Rattle.machine_model.specs.Image.{Image}
 use Rattle.analysis_model.specs.Calls.{frames_kept}
 use Rattle.analysis_model.specs.Complaints.{Guest, findings}
-use Rattle.analysis_model.specs.Cover.{Span}
+use Rattle.analysis_model.specs.Cover.{CodeRange}
 use Rattle.analysis_model.specs.Locks.{locks_kept}
 use Rattle.analysis_model.specs.Made.{make_of, kind_made_of, guest_made_of, guest_of}
 use Rattle.analysis_model.specs.Report.{part_text}
@@ -24,7 +24,7 @@ kind_made_of-make Locks image = refl
 
 guest-cover : (image : Image) (kib : ℕ) → guest_made_of kib (make_of Cover image) ≡ guest_of image kib
 guest-cover image kib =
-    let guest : List Span → Guest = λ code. record { code = code; ram_kib = kib; frames = frames_kept; locks = locks_kept } in
+    let guest : List CodeRange → Guest = λ code. record { code = code; ram_kib = kib; frames = frames_kept; locks = locks_kept } in
     ap guest (code_made_of-cover image)
 
 -- findings of a guest that is known by its image

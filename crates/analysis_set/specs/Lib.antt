@@ -1,2 +1,1 @@
 pub mod Analysis
-pub mod Head

@@ -10,7 +10,7 @@ mod put;
 
 pub use analysis::Analysis;
 pub use any_analysis::AnyAnalysis;
-pub use head::{RunFacts, report_head};
+pub use head::report_head;
 pub use part::report_part;
 
 #[cfg(test)]

@@ -1,7 +1,7 @@
 //! Each line of the report.
 ghost use Rattle.std.specs.Prelude.{◌≡◌, ◌+◌, ◌≤◌, ◌++◌, Option, Some, None, length};
 ghost use Rattle.analysis_model.specs.Report.{line, title_line, steps_line, end_line, output_line, records_line, kind_name, finding_name, step_text, findings_line, pcs_line, range_line, finding_line, unmatched_line};
-ghost use Rattle.analysis_model.specs.Cover.{Span};
+ghost use Rattle.analysis_model.specs.Cover.{CodeRange};
 
 use run_events::{EndCause, Finding, FindingKind, Kind};
 use text_line::Line;

@@ -3,8 +3,9 @@ ghost use Rattle.std.specs.Prelude.{◌≡◌, ◌<◌, IfOk};
 ghost use Rattle.run_events.specs.Event.{Fits};
 ghost use Rattle.analysis_set.specs.Analysis.{kib_of};
 
-use crate::{Analysis, AnyAnalysis, RunFacts, report_head, report_part};
+use crate::{Analysis, AnyAnalysis, report_head, report_part};
 use after_edge::{Failed, MemorySink};
+use analysis_model::RunFacts;
 use elf_image::read_flat;
 use memory_map::{NoMemory, RAM_START};
 use run_events::{Access, EndCause, Event, Kind, Told, Watcher};

@@ -36,9 +36,17 @@ impl SharedByThreads for Calls {}
 impl Model for Calls {
     ghost Value = { Stacks };
 
-    ghost view = { λ c. record { ram_kib = c.ram_kib; context = c.context; rings = c.rings.items; unmatched = c.unmatched; found = c.found } };
+    ghost view = { λ c. record {
+      ram_kib = c.ram_kib;
+      context = c.context;
+      rings = c.rings.items;
+      unmatched = c.unmatched;
+      found = c.found;
+    } };
 
-    ghost invariant = { λ c. (c.ram_kib ≤ MOST_RAM_KIB) × (c.context < 64) × (length c.rings.items ≡ 64) };
+    ghost invariant = { λ c. (c.ram_kib ≤ MOST_RAM_KIB)
+        × (c.context < 64)
+        × (length c.rings.items ≡ 64) };
 }
 
 impl Watcher for Calls {

@@ -1,15 +1,15 @@
--- Ranges of code, and the spans that their numbers give.
+-- Ranges of code, as they are kept and as their numbers give them.
 use Rattle.std.proofs.Common.{◌≡◌, ℕ, ◌+◌, ◌<◌, length, drop, get_or, true, false, Bool, List, [], ◌∷◌, ◌++◌, refl, sym, ap, ◌∙◌, append_assoc}
 use Rattle.std.proofs.lemmas.List.{drop_more}
 use Rattle.machine_model.specs.Image.{Segment}
 use Rattle.analysis_model.specs.Cover.{is_within}
-use Rattle.analysis_model.specs.Made.{code_numbers, spans_made_of}
+use Rattle.analysis_model.specs.Made.{code_numbers, ranges_made_of}
 use Rattle.coverage_map.specs.declared.area.Area.{Area}
 use Rattle.coverage_map.specs.Coverage.{area_numbers}
 
 -- an address of the ranges of code from a place on
 abbrev pub is_code_behind : List Area → ℕ → ℕ → Bool
-is_code_behind code place pc = is_within (spans_made_of (area_numbers (drop place code))) pc
+is_code_behind code place pc = is_within (ranges_made_of (area_numbers (drop place code))) pc
 
 pub area_numbers-last : (code : List Area) (area : Area) → area_numbers (code ++ area ∷ []) ≡ area_numbers code ++ area.address ∷ area.size ∷ []
 area_numbers-last [] area = refl

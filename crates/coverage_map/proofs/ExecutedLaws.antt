@@ -7,7 +7,7 @@ use Rattle.std.proofs.lemmas.Bool.Decides.{nat_tests}
 use Rattle.memory_map.specs.declared.TheConstants.{RAM_START}
 use Rattle.run_events.specs.declared.event.Event.{Event}
 use Rattle.analysis_model.specs.Ascending.{with_member, ascending}
-use Rattle.analysis_model.specs.Cover.{Span, executed_pc, joined, runs, is_within}
+use Rattle.analysis_model.specs.Cover.{CodeRange, executed_pc, joined, runs, is_within}
 use Rattle.coverage_map.specs.Coverage.{Covered, Stands, marked_from, marked, ranges_now}
 use Rattle.coverage_map.proofs.AscendingLaws.{with_member-same, with_member-before, with_member-behind}
 use Rattle.coverage_map.specs.Executed.{is_byte_of, AscendFrom, AreExecuted}
@@ -27,39 +27,39 @@ WordsFrom-marked address (true ∷ marks) = (omega arith, WordsFrom-marked (addr
 WordsFrom-marked address (false ∷ marks) = WordsFrom-less address (address + 4) (marked_from (address + 4) marks) (omega arith) (WordsFrom-marked (address + 4) marks)
 
 -- a word before ranges either touches the first of them or lies apart
-joined-touches : (pc : ℕ) (span : Span) (spans : List Span) → pc + 4 ≡ span.from → joined pc (span ∷ spans) ≡ record { from = pc; to = span.to } ∷ spans
-joined-touches pc span spans e = grind (arith, nat_tests)
+joined-touches : (pc : ℕ) (range : CodeRange) (ranges : List CodeRange) → pc + 4 ≡ range.from → joined pc (range ∷ ranges) ≡ record { from = pc; to = range.to } ∷ ranges
+joined-touches pc range ranges e = grind (arith, nat_tests)
 
-joined-apart : (pc : ℕ) (span : Span) (spans : List Span) → pc + 4 < span.from → joined pc (span ∷ spans) ≡ record { from = pc; to = pc + 4 } ∷ span ∷ spans
-joined-apart pc span spans h = grind (arith, nat_tests)
+joined-apart : (pc : ℕ) (range : CodeRange) (ranges : List CodeRange) → pc + 4 < range.from → joined pc (range ∷ ranges) ≡ record { from = pc; to = pc + 4 } ∷ range ∷ ranges
+joined-apart pc range ranges h = grind (arith, nat_tests)
 
-AscendFrom-joined : (address pc : ℕ) (spans : List Span) → address ≤ pc → AscendFrom (pc + 4) spans → AscendFrom address (joined pc spans)
+AscendFrom-joined : (address pc : ℕ) (ranges : List CodeRange) → address ≤ pc → AscendFrom (pc + 4) ranges → AscendFrom address (joined pc ranges)
 AscendFrom-joined address pc [] h a = (h, omega arith, tt)
-AscendFrom-joined address pc (span ∷ spans) h a =
-    elim (cases_lt (pc + 4) span.from) [
-      | inl apart ↦ rw (joined-apart pc span spans apart) (h, omega arith, (omega arith, a.1, a.2))
-      | inr close ↦ let touches : pc + 4 ≡ span.from = omega arith in rw (joined-touches pc span spans touches) (h, omega arith, a.2)
+AscendFrom-joined address pc (range ∷ ranges) h a =
+    elim (cases_lt (pc + 4) range.from) [
+      | inl apart ↦ rw (joined-apart pc range ranges apart) (h, omega arith, (omega arith, a.1, a.2))
+      | inr close ↦ let touches : pc + 4 ≡ range.from = omega arith in rw (joined-touches pc range ranges touches) (h, omega arith, a.2)
     ]
 
 AscendFrom-runs : (address : ℕ) (pcs : List ℕ) → WordsFrom address pcs → AscendFrom address (runs pcs)
 AscendFrom-runs address [] w = tt
 AscendFrom-runs address (pc ∷ pcs) w = AscendFrom-joined address pc (runs pcs) w.0 (AscendFrom-runs (pc + 4) pcs w.1)
 
-bytes_joined : (b pc : ℕ) (span : Span) → pc + 4 ≡ span.from → span.from < span.to → (nat_le pc b && nat_lt b span.to) ≡ (is_byte_of b pc || (nat_le span.from b && nat_lt b span.to))
-bytes_joined b pc span e h = grind (arith, nat_tests)
+bytes_joined : (b pc : ℕ) (range : CodeRange) → pc + 4 ≡ range.from → range.from < range.to → (nat_le pc b && nat_lt b range.to) ≡ (is_byte_of b pc || (nat_le range.from b && nat_lt b range.to))
+bytes_joined b pc range e h = grind (arith, nat_tests)
 
 or_swap : (a b c : Bool) → (a || (b || c)) ≡ (b || (a || c))
 or_swap a b c = grind arith
 
 -- a word adds its bytes
-is_within-joined : (b pc : ℕ) (spans : List Span) → AscendFrom (pc + 4) spans → is_within (joined pc spans) b ≡ (is_byte_of b pc || is_within spans b)
+is_within-joined : (b pc : ℕ) (ranges : List CodeRange) → AscendFrom (pc + 4) ranges → is_within (joined pc ranges) b ≡ (is_byte_of b pc || is_within ranges b)
 is_within-joined b pc [] a = refl
-is_within-joined b pc (span ∷ spans) a =
-    elim (cases_lt (pc + 4) span.from) [
-      | inl apart ↦ ap (λ l. is_within l b) (joined-apart pc span spans apart)
+is_within-joined b pc (range ∷ ranges) a =
+    elim (cases_lt (pc + 4) range.from) [
+      | inl apart ↦ ap (λ l. is_within l b) (joined-apart pc range ranges apart)
       | inr close ↦
-          let touches : pc + 4 ≡ span.from = omega arith in
-          ap (λ l. is_within l b) (joined-touches pc span spans touches) ∙ ap (λ t. t || is_within spans b) (bytes_joined b pc span touches a.1) ∙ or_assoc (is_byte_of b pc) _ (is_within spans b)
+          let touches : pc + 4 ≡ range.from = omega arith in
+          ap (λ l. is_within l b) (joined-touches pc range ranges touches) ∙ ap (λ t. t || is_within ranges b) (bytes_joined b pc range touches a.1) ∙ or_assoc (is_byte_of b pc) _ (is_within ranges b)
     ]
 
 is_within-runs : (b address : ℕ) (pcs : List ℕ) → WordsFrom address pcs → is_within (runs pcs) b ≡ list_any (is_byte_of b) pcs

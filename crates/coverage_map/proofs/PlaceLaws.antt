@@ -2,7 +2,7 @@
 use Rattle.std.proofs.Common.{◌≡◌, ℕ, ◌+◌, ◌<◌, ◌≤◌, Bool, true, false, cond, List, [], ◌∷◌, length, drop, get_or, slice_get, Some, refl, ap, ◌∙◌, arith}
 use Rattle.std.proofs.lemmas.List.{drop_all, length-drop, drop_more}
 use Rattle.std.proofs.lemmas.Option.{get_or_from_slice_get, slice_get_within}
-use Rattle.analysis_model.specs.Cover.{Span, runs}
+use Rattle.analysis_model.specs.Cover.{CodeRange, runs}
 use Rattle.coverage_map.specs.Coverage.{marked_from}
 use Rattle.coverage_map.specs.Places.{place_address, marked_behind}
 use Rattle.coverage_map.proofs.RangeLaws.{grown, grown-word, grown-grown, grown-apart, BeginBehind-marked}
@@ -44,7 +44,7 @@ pub range_ends_last : (marks : List Bool) (start place : ℕ) → length marks �
 range_ends_last marks start place h = rw (behind-end marks place h) refl
 
 -- some range is left where the place is one of a mark
-pub range_is_there : (marks : List Bool) (ranges : List Span) (done place : ℕ) → drop done ranges ≡ runs (marked_behind marks place) → done < length ranges → place < length marks
+pub range_is_there : (marks : List Bool) (ranges : List CodeRange) (done place : ℕ) → drop done ranges ≡ runs (marked_behind marks place) → done < length ranges → place < length marks
 range_is_there marks ranges done place e h =
     let none = λ (end : length marks ≤ place). let empty : drop done ranges ≡ [] = e ∙ ap runs (behind-end marks place end) in ap length empty in
     grind (arith, none, length-drop)

@@ -5,8 +5,8 @@ use Rattle.run_events.specs.declared.event.Event.{Event}
 use Rattle.run_events.specs.declared.event.Event.TheVariants.{Dma, Irq, Trap, Exec}
 use Rattle.run_events.specs.declared.finding.Kind.TheVariants.{Cover}
 use Rattle.analysis_model.specs.Complaints.{Guest, findings}
-use Rattle.analysis_model.specs.Cover.{Span, executed_pcs, is_within, outside_at, runs}
-use Rattle.analysis_model.specs.Made.{code_made_of, guest_made_of, spans_made_of}
+use Rattle.analysis_model.specs.Cover.{CodeRange, executed_pcs, is_within, outside_at, runs}
+use Rattle.analysis_model.specs.Made.{code_made_of, guest_made_of, ranges_made_of}
 use Rattle.finding_tally.specs.Tallied.{Tallied, Tallies, tallied_with}
 use Rattle.coverage_map.specs.declared.area.Area.{Area}
 
@@ -28,7 +28,7 @@ area_numbers (area ∷ areas) = area.address ∷ area.size ∷ area_numbers area
 
 -- a range whose addresses are all code
 abbrev pub IsCode : Area → List Area → Type 0
-IsCode area code = (pc : ℕ) → holds area pc ≡ true → is_within (spans_made_of (area_numbers code)) pc ≡ true
+IsCode area code = (pc : ℕ) → holds area pc ≡ true → is_within (ranges_made_of (area_numbers code)) pc ≡ true
 
 -- what it was made of
 abbrev pub make_now : Covered → List ℕ
@@ -57,7 +57,7 @@ pub record Stands (c : Covered) (events : List Event) : Type 0 where
 abbrev pub pcs_now : Covered → List ℕ
 pcs_now c = marked c.marks
 
-abbrev pub ranges_now : Covered → List Span
+abbrev pub ranges_now : Covered → List CodeRange
 ranges_now c = runs (pcs_now c)
 
 -- with the mark of the word at this address

@@ -1,7 +1,7 @@
 //! The ranges of addresses that hold code.
 ghost use Rattle.std.specs.Prelude.{◌≡◌, IfOk};
 ghost use Rattle.analysis_model.specs.Cover.{is_within};
-ghost use Rattle.analysis_model.specs.Made.{code_numbers, spans_made_of};
+ghost use Rattle.analysis_model.specs.Made.{code_numbers, ranges_made_of};
 ghost use Rattle.coverage_map.specs.Coverage.{IsCode, area_numbers, holds};
 
 use elf_image::Segment;
@@ -41,7 +41,7 @@ pub fn main_of(code: &[Area]) -> Area
 
 /// Whether some range of code has this address.
 pub fn is_code(code: &[Area], pc: u32) -> bool
-    ensures { result ≡ is_within (spans_made_of (area_numbers code.now)) pc }
+    ensures { result ≡ is_within (ranges_made_of (area_numbers code.now)) pc }
 {
     for area in code {
         if area.holds(pc) {

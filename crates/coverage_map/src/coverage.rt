@@ -7,7 +7,7 @@ ghost use Rattle.run_events.specs.Event.{Fits, IsWordInRam};
 ghost use Rattle.analysis_model.specs.Complaints.{findings};
 ghost use Rattle.analysis_model.specs.Cover.{executed_pcs, executed_ranges, is_within};
 ghost use Rattle.analysis_model.specs.Findings.{first_step, tally, kept};
-ghost use Rattle.analysis_model.specs.Made.{make_of, spans_made_of};
+ghost use Rattle.analysis_model.specs.Made.{make_of, ranges_made_of};
 ghost use Rattle.coverage_map.specs.Coverage.{Covered, IsCode, Stands, area_numbers, make_now, guest_now, pcs_now, ranges_now, with_mark, with_outside, after};
 ghost use Rattle.coverage_map.specs.Executed.{AreExecuted};
 
@@ -36,7 +36,12 @@ impl SharedByThreads for Coverage {}
 impl Model for Coverage {
     ghost Value = { Covered };
 
-    ghost view = { λ c. record { ram_kib = c.ram_kib; code = c.code.items; marks = c.marks.items; found = c.found } };
+    ghost view = { λ c. record {
+      ram_kib = c.ram_kib;
+      code = c.code.items;
+      marks = c.marks.items;
+      found = c.found;
+    } };
 
     ghost invariant = { λ c. (c.ram_kib ≤ MOST_RAM_KIB)
         × (length c.marks.items ≡ 256 * c.ram_kib)
@@ -128,7 +133,7 @@ impl Coverage {
         count_ranges(&self.marks)
     }
 
-    /// The range with this index, in ascending order: its first address, and the one behind its last.
+    /// The range with this index, in ascending order: its first address, and the one after its last.
     pub fn range(&self, index: u64) -> (u32, u32)
         requires { index < length (ranges_now self.now) }
         ensures now { slice_get (ranges_now self.now) index
@@ -161,7 +166,7 @@ impl Coverage {
     // Whether an address is code.
     #[inline(always)]
     fn has_code_at(&self, pc: u32) -> bool
-        ensures { result ≡ is_within (spans_made_of (area_numbers self.now.code)) pc }
+        ensures { result ≡ is_within (ranges_made_of (area_numbers self.now.code)) pc }
     {
         self.main.holds(pc) || is_code(&self.code, pc)
     }

@@ -27,7 +27,7 @@ pub fn count_ranges(marks: &[bool]) -> u64
     ranges
 }
 
-/// The range with this index: its first address, and the one behind its last.
+/// The range with this index: its first address, and the one after its last.
 pub fn find_range(marks: &[bool], index: u64) -> (u32, u32)
     requires size { length marks.now ≤ 4194304 }
     requires there { index < length (runs (marked marks.now)) }
@@ -56,7 +56,7 @@ fn next_marked(marks: &[bool], start: usize) -> usize
     place
 }
 
-// The place behind the range that begins at this marked place.
+// The place after the range that begins at this marked place.
 #[tactic(auto, using(crate::proofs::PlaceLaws::range_grows, crate::proofs::PlaceLaws::range_ends, crate::proofs::PlaceLaws::range_ends_last))]
 fn range_end(marks: &[bool], start: usize) -> usize
     requires { slice_get marks.now start ≡ Some true }

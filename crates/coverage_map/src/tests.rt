@@ -8,7 +8,7 @@ use memory_map::RAM_START;
 use run_events::{Access, Event, Told, Watcher};
 use std::test::Fail;
 
-// A nop, executed this many bytes behind the start of RAM.
+// A nop, executed this many bytes after the start of RAM.
 fn executed(step: u32, offset: u32) -> Event
     requires aligned { offset % 4 ≡ 0 }
     requires near { offset < 65536 }

@@ -1,6 +1,7 @@
 //! Images, how a flat file gives one, and how one is loaded.
-ghost use Rattle.std.specs.Prelude.{◌≡◌, ◌+◌, ◌<◌, ◌≤◌, ◌^◌, ℕ, List, length, IfOk};
-ghost use Rattle.machine_model.specs.Image.{flat_image, ram_with, IsLoadable};
+ghost use Rattle.memory_map.specs.declared.TheConstants.{LEAST_RAM_KIB, MOST_RAM_KIB};
+ghost use Rattle.std.specs.Prelude.{◌≡◌, ◌+◌, ◌*◌, ◌<◌, ◌≤◌, ◌^◌, ℕ, List, length, IfOk};
+ghost use Rattle.machine_model.specs.Image.{flat_image, ram_at_start, ram_with, IsLoadable};
 
 use memory_map::{NoMemory, RAM_START, SharedByThreads};
 use rv_memory::Ram;
@@ -61,8 +62,22 @@ impl Model for Image {
 }
 
 impl Image {
-    /// Puts the segments' bytes into RAM, in order. Each segment's bytes stand in that RAM.
-    pub fn load_into(&self, ram: &mut Ram)
+    /// The RAM that a guest of this image starts with, of `ram_kib` KiB: zero but for the segments' bytes.
+    #[tactic(auto, unfolding(machine_model::specs::Image::ram_at_start))]
+    pub fn start_ram(&self, alloc: Global, ram_kib: u32) -> Result<Ram, NoMemory>
+        requires least { LEAST_RAM_KIB ≤ ram_kib }
+        requires most { ram_kib ≤ MOST_RAM_KIB }
+        requires loadable { IsLoadable (1024 * ram_kib) self.now.segments }
+        ensures start { IfOk result (λ ram. ram ≡ ram_at_start self.now ram_kib) }
+        ensures size { IfOk result (λ ram. length ram ≡ 1024 * ram_kib) }
+    {
+        let mut ram = Ram::new(alloc, ram_kib)?;
+        self.load_into(&mut ram);
+        Ok(ram)
+    }
+
+    // Puts the segments' bytes into RAM, in order. Each segment's bytes stand in that RAM.
+    fn load_into(&self, ram: &mut Ram)
         requires { IsLoadable (length ram.old) self.now.segments }
         ensures loaded { ram.new ≡ ram_with self.now.segments ram.old }
         ensures size { length ram.new ≡ length ram.old }

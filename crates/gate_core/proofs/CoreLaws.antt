@@ -6,7 +6,7 @@ use Rattle.std.proofs.lemmas.Bool.{cases_lt, cases_eq, and_parts}
 use Rattle.run_events.specs.declared.record.Record.{Record}
 use Rattle.run_events.proofs.RecordLaws.{admitted_rises}
 use Rattle.run_events.specs.Record.{is_admitted, is_ordered_back, is_ordered, reach_back, reach}
-use Rattle.gate_core.specs.Core.{Plan, CoreState, CoreEvent, Append, Close, TakeNext, Post, Release, Break, reached, IsPlan, opening, IsShown, IsReleasable, MayAppend, May, approves, after_event, Leads, IsSoundAt, IsSound, StaysSound}
+use Rattle.gate_core.specs.Core.{Plan, CoreState, CoreEvent, Append, Close, TakeNext, Post, Release, Break, reached, IsPlan, opening, MayGoOut, IsReleasable, MayAppend, May, approves, core_after, Leads, IsSoundAt, IsSound, StaysSound}
 
 reach_falls : (items : List Record) → is_ordered_back items ≡ true → (j k : ℕ) → j ≤ k → reach_back (drop k items) ≤ reach_back (drop j items)
 reach_falls [] h j k low = omega (arith, ap reach_back (drop-nil j), ap reach_back (drop-nil k))
@@ -49,11 +49,11 @@ opening_IsSound plan =
         seen = omega (arith, none reader low);
       };
       released = omega arith;
-      shown = λ byte low. absurd (omega arith);
+      may_go = λ byte low. absurd (omega arith);
       closed = λ h. grind arith;
     }
 
-append_IsSound : (plan : Plan) (s : CoreState) → IsPlan plan → IsSound plan s → MayAppend plan s → IsSound plan (after_event plan s Append)
+append_IsSound : (plan : Plan) (s : CoreState) → IsPlan plan → IsSound plan s → MayAppend plan s → IsSound plan (core_after plan s Append)
 append_IsSound plan s ok was may =
     let more : reached plan s.appended ≤ reached plan (s.appended + 1) = reach_rises plan.items ok.items s.appended (s.appended + 1) (omega arith) in
     record {
@@ -67,15 +67,15 @@ append_IsSound plan s ok was may =
         seen = (was.readers reader low).seen;
       };
       released = was.released;
-      shown = λ byte low. record { reached = omega (arith, more, (was.shown byte low).reached); approved = (was.shown byte low).approved };
+      may_go = λ byte low. record { reached = omega (arith, more, (was.may_go byte low).reached); approved = (was.may_go byte low).approved };
       closed = λ h. let both : false ≡ true = sym may.«open» ∙ h in grind arith;
     }
 
 -- what is sound of the log and its readers stays so, whatever was closed, has failed or was released
 outside_IsSound : (plan : Plan) (s : CoreState) → IsSound plan s → (closed failed : Bool) (released : ℕ) → released ≤ length plan.outputs
-    → ((byte : ℕ) → byte < released → IsShown plan s (slice_index plan.outputs byte)) → (closed ≡ true → (s.appended ≡ length plan.items) ⊎ (failed ≡ true))
+    → ((byte : ℕ) → byte < released → MayGoOut plan s (slice_index plan.outputs byte)) → (closed ≡ true → (s.appended ≡ length plan.items) ⊎ (failed ≡ true))
     → IsSound plan (record s { closed = closed; failed = failed; released = released })
-outside_IsSound plan s was closed failed released there shown over = record {
+outside_IsSound plan s was closed failed released there may_go over = record {
   taken = was.taken;
   approved = was.approved;
   appended = was.appended;
@@ -86,11 +86,11 @@ outside_IsSound plan s was closed failed released there shown over = record {
     seen = (was.readers reader low).seen;
   };
   released = there;
-  shown = λ byte low. record { reached = (shown byte low).reached; approved = (shown byte low).approved };
+  may_go = λ byte low. record { reached = (may_go byte low).reached; approved = (may_go byte low).approved };
   closed = over;
 }
 
-take_IsSound : (plan : Plan) (s : CoreState) (reader : ℕ) → IsPlan plan → IsSound plan s → May plan s (TakeNext reader) → IsSound plan (after_event plan s (TakeNext reader))
+take_IsSound : (plan : Plan) (s : CoreState) (reader : ℕ) → IsPlan plan → IsSound plan s → May plan s (TakeNext reader) → IsSound plan (core_after plan s (TakeNext reader))
 take_IsSound plan s reader ok was may =
     let count : ℕ = slice_index s.taken reader in
     let more : reached plan count ≤ reached plan (count + 1) = reach_rises plan.items ok.items count (count + 1) (omega arith) in
@@ -113,11 +113,11 @@ take_IsSound plan s reader ok was may =
         seen = now.2;
       };
       released = was.released;
-      shown = λ byte low. record { reached = (was.shown byte low).reached; approved = (was.shown byte low).approved };
+      may_go = λ byte low. record { reached = (was.may_go byte low).reached; approved = (was.may_go byte low).approved };
       closed = was.closed;
     }
 
-post_IsSound : (plan : Plan) (s : CoreState) (reader : ℕ) → IsSound plan s → May plan s (Post reader) → IsSound plan (after_event plan s (Post reader))
+post_IsSound : (plan : Plan) (s : CoreState) (reader : ℕ) → IsSound plan s → May plan s (Post reader) → IsSound plan (core_after plan s (Post reader))
 post_IsSound plan s reader was may =
     let step : ℕ = approves plan s reader in
     let Fine : ℕ → ℕ → Type 0 = λ k n. (n ≤ slice_index plan.limits k) × (n ≤ reached plan (slice_index s.taken k)) in
@@ -140,33 +140,33 @@ post_IsSound plan s reader was may =
         seen = now.1;
       };
       released = was.released;
-      shown = λ byte low. record {
-        reached = (was.shown byte low).reached;
-        approved = λ k needed. omega (arith, (was.shown byte low).approved k needed, set_grows s.approved reader step rises k);
+      may_go = λ byte low. record {
+        reached = (was.may_go byte low).reached;
+        approved = λ k needed. omega (arith, (was.may_go byte low).approved k needed, set_grows s.approved reader step rises k);
       };
       closed = was.closed;
     }
 
--- bytes that may be released are shown, as those before them are
-shown_more : (plan : Plan) (s : CoreState) (count done : ℕ) → IsSound plan s → IsReleasable plan s count → done ≤ count → (byte : ℕ) → byte < s.released + done → IsShown plan s (slice_index plan.outputs byte)
-shown_more plan s count done was may part byte low =
-    elim (cases_lt byte s.released) as (λ _. IsShown plan s (slice_index plan.outputs byte)) [
-      | inl near ↦ was.shown byte near
-      | inr far ↦ may.shown byte far (omega arith)
+-- bytes that may be released may go out, as those before them may
+may_go_more : (plan : Plan) (s : CoreState) (count done : ℕ) → IsSound plan s → IsReleasable plan s count → done ≤ count → (byte : ℕ) → byte < s.released + done → MayGoOut plan s (slice_index plan.outputs byte)
+may_go_more plan s count done was may part byte low =
+    elim (cases_lt byte s.released) as (λ _. MayGoOut plan s (slice_index plan.outputs byte)) [
+      | inl near ↦ was.may_go byte near
+      | inr far ↦ may.may_go byte far (omega arith)
     ]
 
-pub event_IsSound : (plan : Plan) (s : CoreState) (event : CoreEvent) → IsPlan plan → IsSound plan s → May plan s event → IsSound plan (after_event plan s event)
+pub event_IsSound : (plan : Plan) (s : CoreState) (event : CoreEvent) → IsPlan plan → IsSound plan s → May plan s event → IsSound plan (core_after plan s event)
 event_IsSound plan s Append ok was may = append_IsSound plan s ok was may
-event_IsSound plan s Close ok was may = outside_IsSound plan s was true s.failed s.released was.released was.shown (λ _. may.1)
+event_IsSound plan s Close ok was may = outside_IsSound plan s was true s.failed s.released was.released was.may_go (λ _. may.1)
 event_IsSound plan s (TakeNext reader) ok was may = take_IsSound plan s reader ok was may
 event_IsSound plan s (Post reader) ok was may = post_IsSound plan s reader was may
-event_IsSound plan s (Release count) ok was may = outside_IsSound plan s was s.closed s.failed (s.released + count) may.there (shown_more plan s count count was may (omega arith)) was.closed
+event_IsSound plan s (Release count) ok was may = outside_IsSound plan s was s.closed s.failed (s.released + count) may.there (may_go_more plan s count count was may (omega arith)) was.closed
 event_IsSound plan s (Break count done) ok was may =
-    outside_IsSound plan s was s.closed true (s.released + done) (omega (arith, may.0.there, may.1)) (shown_more plan s count done was may.0 may.1) (λ _. inr refl)
+    outside_IsSound plan s was s.closed true (s.released + done) (omega (arith, may.0.there, may.1)) (may_go_more plan s count done was may.0 may.1) (λ _. inr refl)
 
 events_IsSound : (plan : Plan) → IsPlan plan → (events : List CoreEvent) (s last : CoreState) → IsSound plan s → Leads plan s events last → IsSound plan last
 events_IsSound plan ok [] s last was leads = subst (IsSound plan) leads was
-events_IsSound plan ok (event ∷ events) s last was leads = events_IsSound plan ok events (after_event plan s event) last (event_IsSound plan s event ok was leads.0) leads.1
+events_IsSound plan ok (event ∷ events) s last was leads = events_IsSound plan ok events (core_after plan s event) last (event_IsSound plan s event ok was leads.0) leads.1
 
 pub stays_IsSound : StaysSound
 stays_IsSound plan ok events s leads = events_IsSound plan ok events (opening plan) s (opening_IsSound plan) leads

@@ -13,7 +13,7 @@ use Rattle.gate_core.specs.declared.full.Full.{Full}
 use Rattle.gate_core.specs.declared.verdict.Verdict.{Verdict}
 use Rattle.gate_core.specs.Core.{Plan, CoreState, approves}
 use Rattle.gate_core.specs.Hub.{HubState, hub_state, full_of, full_at}
-use Rattle.gate_core.specs.Follow.{hub_of, approvals, Appends, Refuses, Takes, Posts}
+use Rattle.gate_core.specs.Follow.{hub_of, approvals, AppendFollows, RefusalFollows, TakeFollows, PostFollows}
 use Rattle.gate_core.proofs.HubLaws.{room_left}
 
 -- the last records of those kept and one more are the last of all of them
@@ -28,7 +28,7 @@ keep_more n xs x =
     ∙ drop-drop (length (keep_last n xs ++ x ∷ []) - n) k (xs ++ x ∷ [])
     ∙ ap (λ j. drop j (xs ++ x ∷ [])) (omega (arith, kept, more, all))
 
--- where a hub is full, a reader stands a whole log behind
+-- where a hub is full, a reader has a whole log still to take
 pub named : (counts : List ℕ) (total n : ℕ) (full : Full) → full_at counts total n ≡ Some full → (reader : ℕ) × ((reader < length counts) × (slice_index counts reader + n ≡ total))
 named counts total n full is = by_size (nat_lt total n) refl is
   where
@@ -49,7 +49,7 @@ named counts total n full is = by_size (nat_lt total n) refl is
     by_size true small none = cc
     by_size false large some = by_place large (position passes counts) refl some
 
-pub appends : Appends
+pub appends : AppendFollows
 appends plan s posted item sound opened fine next none =
     let all : List Record = take s.appended plan.items in
     let test : is_some (full_of (hub_of plan s posted)) ≡ false = ap is_some none in
@@ -69,7 +69,7 @@ appends plan s posted item sound opened fine next none =
           ∙ ap (λ l. hub_state plan.cap l (s.appended + 1) s.taken posted s.closed) (keep_more plan.cap all item ∙ ap (keep_last plan.cap) longer);
     }
 
-pub refuses : Refuses
+pub refuses : RefusalFollows
 refuses plan s posted item full sound is =
     let all : List Record = take s.appended plan.items in
     let behind = named s.taken s.appended plan.cap full is in
@@ -85,7 +85,7 @@ abbrev taken_after : Plan → CoreState → List Verdict → ℕ → Bool → Hu
 taken_after plan s posted reader moves =
     hub_state plan.cap (keep_last plan.cap (take s.appended plan.items)) s.appended (cond moves (slice_set s.taken reader (slice_index s.taken reader + 1)) s.taken) posted s.closed
 
-pub takes : Takes
+pub takes : TakeFollows
 takes plan s posted reader item sound low gives =
     let all : List Record = take s.appended plan.items in
     let count : ℕ = slice_index s.taken reader in
@@ -99,7 +99,7 @@ takes plan s posted reader item sound low gives =
     let found = sym (slice_get-take s.appended plan.items count behind) ∙ sym (slice_get-drop (length all - plan.cap) all (length (keep_last plan.cap all) + count - s.appended) count place) ∙ here in
     (record { may = (low, behind); after = ap (taken_after plan s posted reader) moves }, found)
 
-pub posts : Posts
+pub posts : PostFollows
 posts plan s posted reader verdict low board approved =
     let shown : approvals (slice_set posted reader verdict) ≡ slice_set s.approved reader (approves plan s reader) =
     map-set (λ (v : Verdict). v.approved) posted reader verdict ∙ ap (λ l. slice_set l reader verdict.approved) board ∙ ap (slice_set s.approved reader) approved in

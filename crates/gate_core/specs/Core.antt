@@ -38,14 +38,14 @@ abbrev pub reached : Plan → ℕ → ℕ
 reached plan count = reach (take count plan.items)
 
 -- each step is at least the one before it, which is given
-abbrev pub RisesFrom : ℕ → List ℕ → Type 0
-RisesFrom low [] = Unit {0}
-RisesFrom low (step ∷ steps) = (low ≤ step) × RisesFrom step steps
+abbrev pub StepsRise : ℕ → List ℕ → Type 0
+StepsRise low [] = Unit {0}
+StepsRise low (step ∷ steps) = (low ≤ step) × StepsRise step steps
 
 -- a plan has records in their order, and output steps that rise and that the records reach
 pub record IsPlan (plan : Plan) : Type 0 where
   pub items : is_ordered plan.items ≡ true
-  pub rises : RisesFrom 0 plan.outputs
+  pub rises : StepsRise 0 plan.outputs
   pub within : (byte : ℕ) → byte < length plan.outputs → slice_index plan.outputs byte < reach plan.items
   pub required : (place : ℕ) → place < length plan.required → slice_index plan.required place < length plan.limits
 
@@ -69,7 +69,7 @@ abbrev pub IsApproved : Plan → CoreState → ℕ → Type 0
 IsApproved plan s step = (reader : ℕ) → IsRequired plan reader → step < slice_index s.approved reader
 
 -- the records that were appended reach beyond the step, and each required replica has approved it
-pub record IsShown (plan : Plan) (s : CoreState) (step : ℕ) : Type 0 where
+pub record MayGoOut (plan : Plan) (s : CoreState) (step : ℕ) : Type 0 where
   pub reached : step < reached plan s.appended
   pub approved : IsApproved plan s step
 
@@ -79,7 +79,7 @@ pub record IsReleasable (plan : Plan) (s : CoreState) (count : ℕ) : Type 0 whe
   pub some : 1 ≤ count
   pub piece : count ≤ 4096
   pub there : s.released + count ≤ length plan.outputs
-  pub shown : (byte : ℕ) → s.released ≤ byte → byte < s.released + count → IsShown plan s (slice_index plan.outputs byte)
+  pub may_go : (byte : ℕ) → s.released ≤ byte → byte < s.released + count → MayGoOut plan s (slice_index plan.outputs byte)
 
 -- a record may be appended: the log is open, there is one, and each replica has a place for it
 pub record MayAppend (plan : Plan) (s : CoreState) : Type 0 where
@@ -102,18 +102,18 @@ abbrev pub approves : Plan → CoreState → ℕ → ℕ
 approves plan s reader = min (slice_index plan.limits reader) (reached plan (slice_index s.taken reader))
 
 -- what each event changes
-abbrev pub after_event : Plan → CoreState → CoreEvent → CoreState
-after_event plan s Append = record s { appended = s.appended + 1 }
-after_event plan s Close = record s { closed = true }
-after_event plan s (TakeNext reader) = record s { taken = slice_set s.taken reader (slice_index s.taken reader + 1) }
-after_event plan s (Post reader) = record s { approved = slice_set s.approved reader (approves plan s reader) }
-after_event plan s (Release count) = record s { released = s.released + count }
-after_event plan s (Break count done) = record s { failed = true; released = s.released + done }
+abbrev pub core_after : Plan → CoreState → CoreEvent → CoreState
+core_after plan s Append = record s { appended = s.appended + 1 }
+core_after plan s Close = record s { closed = true }
+core_after plan s (TakeNext reader) = record s { taken = slice_set s.taken reader (slice_index s.taken reader + 1) }
+core_after plan s (Post reader) = record s { approved = slice_set s.approved reader (approves plan s reader) }
+core_after plan s (Release count) = record s { released = s.released + count }
+core_after plan s (Break count done) = record s { failed = true; released = s.released + done }
 
 -- the events may come one after another from a state, and lead to the last one
 abbrev pub Leads : Plan → CoreState → List CoreEvent → CoreState → Type 0
 Leads plan from [] to = from ≡ to
-Leads plan from (event ∷ events) to = May plan from event × Leads plan (after_event plan from event) events to
+Leads plan from (event ∷ events) to = May plan from event × Leads plan (core_after plan from event) events to
 
 -- what is true of one replica: no record that it has still to take was dropped, and it has approved no more than it may
 pub record IsSoundAt (plan : Plan) (s : CoreState) (reader : ℕ) : Type 0 where
@@ -129,7 +129,7 @@ pub record IsSound (plan : Plan) (s : CoreState) : Type 0 where
   pub appended : s.appended ≤ length plan.items
   pub readers : (reader : ℕ) → reader < length plan.limits → IsSoundAt plan s reader
   pub released : s.released ≤ length plan.outputs
-  pub shown : (byte : ℕ) → byte < s.released → IsShown plan s (slice_index plan.outputs byte)
+  pub may_go : (byte : ℕ) → byte < s.released → MayGoOut plan s (slice_index plan.outputs byte)
   pub closed : s.closed ≡ true → (s.appended ≡ length plan.items) ⊎ (s.failed ≡ true)
 
 -- every list of events leads from the opening state to a sound one

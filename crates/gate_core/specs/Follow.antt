@@ -5,8 +5,8 @@ use Rattle.run_events.specs.declared.record.Record.{Record}
 use Rattle.gate_core.specs.declared.full.Full.{Full}
 use Rattle.gate_core.specs.declared.take.Take.TheVariants.{Got}
 use Rattle.gate_core.specs.declared.verdict.Verdict.{Verdict}
-use Rattle.gate_core.specs.Core.{Plan, CoreState, CoreEvent, Append, Close, TakeNext, Post, May, approves, after_event, opening, IsSound}
-use Rattle.gate_core.specs.Hub.{HubState, hub_state, empty_hub, no_verdict, full_of, with_append, with_take, with_verdict, with_close, Gives}
+use Rattle.gate_core.specs.Core.{Plan, CoreState, CoreEvent, Append, Close, TakeNext, Post, May, approves, core_after, opening, IsSound}
+use Rattle.gate_core.specs.Hub.{HubState, hub_state, empty_hub, no_verdict, full_of, with_append, with_take, with_verdict, with_close, Gets}
 
 -- the hub where the core stands: the last records of those that were appended, and the core's counts
 abbrev pub hub_of : Plan → CoreState → List Verdict → HubState
@@ -15,7 +15,7 @@ hub_of plan s posted = hub_state plan.cap (keep_last plan.cap (take s.appended p
 -- the event may come, and the hub stands where it leads
 pub record Does (plan : Plan) (s : CoreState) (event : CoreEvent) (posted : List Verdict) (left : HubState) : Type 0 where
   pub may : May plan s event
-  pub after : left ≡ hub_of plan (after_event plan s event) posted
+  pub after : left ≡ hub_of plan (core_after plan s event) posted
 
 -- the event may not come, and the hub stands where it was
 pub record Stays (plan : Plan) (s : CoreState) (event : CoreEvent) (posted : List Verdict) (left : HubState) : Type 0 where
@@ -23,37 +23,37 @@ pub record Stays (plan : Plan) (s : CoreState) (event : CoreEvent) (posted : Lis
   pub after : left ≡ hub_of plan s posted
 
 -- a new hub stands at the opening
-abbrev pub Opens : Type 0
-Opens = (plan : Plan) → empty_hub plan.cap (length plan.limits) ≡ hub_of plan (opening plan) (replicate (length plan.limits) no_verdict)
+abbrev pub OpenFollows : Type 0
+OpenFollows = (plan : Plan) → empty_hub plan.cap (length plan.limits) ≡ hub_of plan (opening plan) (replicate (length plan.limits) no_verdict)
 
 -- the next record is appended exactly where the core may append
-abbrev pub Appends : Type 0
-Appends = (plan : Plan) (s : CoreState) (posted : List Verdict) (item : Record) → IsSound plan s → s.closed ≡ false → s.failed ≡ false → slice_get plan.items s.appended ≡ Some item
+abbrev pub AppendFollows : Type 0
+AppendFollows = (plan : Plan) (s : CoreState) (posted : List Verdict) (item : Record) → IsSound plan s → s.closed ≡ false → s.failed ≡ false → slice_get plan.items s.appended ≡ Some item
     → full_of (hub_of plan s posted) ≡ None → Does plan s Append posted (with_append (hub_of plan s posted) item)
 
-abbrev pub Refuses : Type 0
-Refuses = (plan : Plan) (s : CoreState) (posted : List Verdict) (item : Record) (full : Full) → IsSound plan s
+abbrev pub RefusalFollows : Type 0
+RefusalFollows = (plan : Plan) (s : CoreState) (posted : List Verdict) (item : Record) (full : Full) → IsSound plan s
     → full_of (hub_of plan s posted) ≡ Some full → Stays plan s Append posted (with_append (hub_of plan s posted) item)
 
 -- a record that a reader gets is the next one of the plan for it
-abbrev pub Takes : Type 0
-Takes = (plan : Plan) (s : CoreState) (posted : List Verdict) (reader : ℕ) (item : Record) → IsSound plan s → reader < length plan.limits
-    → Gives (hub_of plan s posted) reader (Got item) → Does plan s (TakeNext reader) posted (with_take (hub_of plan s posted) reader) × (slice_get plan.items (slice_index s.taken reader) ≡ Some item)
+abbrev pub TakeFollows : Type 0
+TakeFollows = (plan : Plan) (s : CoreState) (posted : List Verdict) (reader : ℕ) (item : Record) → IsSound plan s → reader < length plan.limits
+    → Gets (hub_of plan s posted) reader (Got item) → Does plan s (TakeNext reader) posted (with_take (hub_of plan s posted) reader) × (slice_get plan.items (slice_index s.taken reader) ≡ Some item)
 
 -- where a reader gets none, the core has none for it
-abbrev pub Waits : Type 0
-Waits = (plan : Plan) (s : CoreState) (posted : List Verdict) (reader : ℕ) → slice_index s.taken reader ≡ s.appended
+abbrev pub WaitFollows : Type 0
+WaitFollows = (plan : Plan) (s : CoreState) (posted : List Verdict) (reader : ℕ) → slice_index s.taken reader ≡ s.appended
     → Stays plan s (TakeNext reader) posted (with_take (hub_of plan s posted) reader)
 
--- a close behind the last record, or behind a put that failed, is the core's
-abbrev pub Closes : Type 0
-Closes = (plan : Plan) (s : CoreState) (posted : List Verdict) → s.closed ≡ false → (s.appended ≡ length plan.items) ⊎ (s.failed ≡ true)
+-- a close after the last record, or after a put that failed, is the core's
+abbrev pub CloseFollows : Type 0
+CloseFollows = (plan : Plan) (s : CoreState) (posted : List Verdict) → s.closed ≡ false → (s.appended ≡ length plan.items) ⊎ (s.failed ≡ true)
     → Does plan s Close posted (with_close (hub_of plan s posted))
 
 -- a verdict that approves as far as the replica may is posted: the board shows what the core approves
 abbrev pub approvals : List Verdict → List ℕ
 approvals posted = map (λ (verdict : Verdict). verdict.approved) posted
 
-abbrev pub Posts : Type 0
-Posts = (plan : Plan) (s : CoreState) (posted : List Verdict) (reader : ℕ) (verdict : Verdict) → reader < length plan.limits → approvals posted ≡ s.approved → verdict.approved ≡ approves plan s reader
-    → Does plan s (Post reader) (slice_set posted reader verdict) (with_verdict (hub_of plan s posted) reader verdict) × (approvals (slice_set posted reader verdict) ≡ (after_event plan s (Post reader)).approved)
+abbrev pub PostFollows : Type 0
+PostFollows = (plan : Plan) (s : CoreState) (posted : List Verdict) (reader : ℕ) (verdict : Verdict) → reader < length plan.limits → approvals posted ≡ s.approved → verdict.approved ≡ approves plan s reader
+    → Does plan s (Post reader) (slice_set posted reader verdict) (with_verdict (hub_of plan s posted) reader verdict) × (approvals (slice_set posted reader verdict) ≡ (core_after plan s (Post reader)).approved)

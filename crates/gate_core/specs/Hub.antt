@@ -51,7 +51,7 @@ no_verdict = record { approved = 0; refused = false }
 abbrev pub empty_hub : ℕ → ℕ → HubState
 empty_hub n readers = hub_state n [] 0 (replicate readers 0) (replicate readers no_verdict) false
 
--- the least reader that stands a whole log behind, with its number
+-- the least reader that has a whole log still to take, with how many it has taken
 abbrev pub full_at : List ℕ → ℕ → ℕ → Option Full
 full_at counts total n =
     if nat_lt total n then None
@@ -60,7 +60,7 @@ full_at counts total n =
 abbrev pub full_of : HubState → Option Full
 full_of h = full_at h.taken h.appended h.cap
 
--- after an append of this record: it stands behind the others, of which only the last stay; nothing where the log is full
+-- after an append of this record: it stands after the others, of which only the last stay; nothing where the log is full
 abbrev pub with_append : HubState → Record → HubState
 with_append h item = record h {
   stored = (if is_some (full_of h) then h.stored else keep_last h.cap (h.stored ++ item ∷ []));
@@ -72,10 +72,10 @@ abbrev pub record_at : HubState → ℕ → Option Record
 record_at h number = slice_get h.stored (length h.stored + number - h.appended)
 
 -- what a reader gets
-abbrev pub Gives : HubState → ℕ → Take → Type 0
-Gives h reader (Got item) = (slice_index h.taken reader < h.appended) × (record_at h (slice_index h.taken reader) ≡ Some item) × IsRecord item
-Gives h reader (Empty head) = (slice_index h.taken reader ≡ h.appended) × (h.closed ≡ false) × (head ≡ h.appended)
-Gives h reader Closed = (slice_index h.taken reader ≡ h.appended) × (h.closed ≡ true)
+abbrev pub Gets : HubState → ℕ → Take → Type 0
+Gets h reader (Got item) = (slice_index h.taken reader < h.appended) × (record_at h (slice_index h.taken reader) ≡ Some item) × IsRecord item
+Gets h reader (Empty head) = (slice_index h.taken reader ≡ h.appended) × (h.closed ≡ false) × (head ≡ h.appended)
+Gets h reader Closed = (slice_index h.taken reader ≡ h.appended) × (h.closed ≡ true)
 
 -- after a reader took its next record, where there was one
 abbrev pub with_take : HubState → ℕ → HubState

@@ -3,7 +3,7 @@ ghost use Rattle.std.specs.Prelude.{◌≡◌, ◌<◌, ◌≤◌, ◌^◌, ◌=
 ghost use Rattle.std.specs.List.{position_or_len};
 ghost use Rattle.std.specs.Result.{result_err};
 ghost use Rattle.run_events.specs.Record.{IsRecord};
-ghost use Rattle.gate_core.specs.Hub.{IsHub, Gives, approved_at, empty_hub, full_at, full_of, with_append, with_close, with_take, with_verdict, verdict_at, is_cap};
+ghost use Rattle.gate_core.specs.Hub.{IsHub, Gets, approved_at, empty_hub, full_at, full_of, with_append, with_close, with_take, with_verdict, verdict_at, is_cap};
 
 use crate::{Full, Take, Verdict};
 use circular_buffer::HeapCircularBuffer;
@@ -31,9 +31,12 @@ impl Model for Hub {
 
     ghost Value = { HubState };
 
-    ghost view = { λ h. hub_state h.cap h.log.items h.appended h.taken.items h.verdicts.items h.closed };
+    ghost view = { λ h. hub_state h.cap h.log.items h.appended
+        h.taken.items h.verdicts.items h.closed };
 
-    ghost invariant = { λ h. (h.log.capacity ≡ h.cap) × IsHub (hub_state h.cap h.log.items h.appended h.taken.items h.verdicts.items h.closed) };
+    ghost invariant = { λ h. (h.log.capacity ≡ h.cap)
+        × IsHub (hub_state h.cap h.log.items h.appended
+        h.taken.items h.verdicts.items h.closed) };
 }
 
 impl Hub {
@@ -83,7 +86,7 @@ impl Hub {
     #[tactic(auto, using(crate::proofs::HubLaws::stored_record))]
     pub fn take(&mut self, reader: u32) -> Take
         requires { reader < length self.old.taken }
-        ensures gives { Gives self.old reader result }
+        ensures gives { Gets self.old reader result }
         ensures after { self.new ≡ with_take self.old reader }
     {
         let index = reader as usize;

@@ -17,16 +17,15 @@ use Rattle.any_machine.proofs.ShownBySteps.{shown_by_steps}
 use Rattle.hart_model.specs.Machine.{hart}
 use Rattle.hart_model.specs.State.{State}
 use Rattle.hart_model.proofs.CountLaws.{hart_counts}
-use Rattle.analysis_model.specs.Report.{Facts}
+use Rattle.analysis_model.specs.declared.facts.RunFacts.{RunFacts}
 use Rattle.job_model.specs.Job.{Job, events, finished, first_refused, guest, released}
 use Rattle.job_model.specs.Text.{facts}
 use Rattle.job_model.proofs.RunLaws.{first_state, job_items, job_output, job_runs}
-use Rattle.analysis_set.specs.Head.{facts_of}
 use Rattle.turn_run.specs.Closings as turns
 use Rattle.turn_run.specs.Endings.{end_in, end_back}
 use Rattle.guard_run.specs.declared.closing.Closing.{Closing}
 use Rattle.guard_run.specs.declared.replica.Replica.{Replica}
-use Rattle.guard_run.specs.Closings.{Closes, HasRead, IsCutRun, IsWholeRun, facts_with, replicas_of}
+use Rattle.guard_run.specs.Closings.{Closes, HasFollowed, IsCutRun, IsWholeRun, facts_with, replicas_of}
 use Rattle.guard_run.specs.Jobs.{course_of}
 use Rattle.guard_run.specs.Openings.{AreReplicas}
 use Rattle.guard_run.specs.Replicas.{HasTaken, Make, make_now, replicas_follow}
@@ -46,7 +45,7 @@ made_at job places replicas number kind replica are there here =
     some_same is = cc
 
 has_read : (job : Job) (kind : Kind) (records : List Record) (shown : List Event) (replica : Replica) → shown_of job.image job.ram_kib records ≡ shown → make_now replica ≡ record { image = job.image; ram_kib = job.ram_kib; kind = kind } → HasTaken replica records
-    → HasRead job kind records shown replica (verdict_on replica.image replica.ram_kib replica.kind records)
+    → HasFollowed job kind records shown replica (verdict_on replica.image replica.ram_kib replica.kind records)
 has_read job kind records shown replica all made taken = record {
   made = made;
   taken = taken;
@@ -70,19 +69,19 @@ module _ (job : Job) (places : List ℕ) (closing : Closing) (are : AreReplicas 
         replicas = closed.followers ∙ limits;
         each = λ number kind replica there here. (
             let followed = closed.each number replica here in
-            subst (λ l. HasRead job kind l shown replica (turns.posted_of closing.over number)) is
-            (subst (HasRead job kind (turns.records_of some) shown replica) (sym followed.posted)
+            subst (λ l. HasFollowed job kind l shown replica (turns.posted_of closing.over number)) is
+            (subst (HasFollowed job kind (turns.records_of some) shown replica) (sym followed.posted)
             (has_read job kind (turns.records_of some) shown replica (ap (shown_of job.image job.ram_kib) is ∙ all) (made_at job places (replicas_of closing) number kind replica are there here) followed.taken)));
         ending = closed.ending ∙ ap end_in is;
       }
 
   -- a whole run
-  pub closes_whole : turns.ClosesWhole replicas_follow (course_of job places) closing.over → IsWholeRun job closing
+  pub closes_whole : turns.IsWholeRun replicas_follow (course_of job places) closing.over → IsWholeRun job closing
   closes_whole whole =
       let run = finished job in
       let marked = are.runnable.marked in
-      let told : Facts = facts job in
-      let fill : ℕ → ℕ → ℕ → Facts = λ issued out count. record { steps = run.steps; end = run.cause; issued = issued; released = out; items = count } in
+      let told : RunFacts = facts job in
+      let fill : ℕ → ℕ → ℕ → RunFacts = λ issued out count. record { steps = run.steps; end = run.cause; issued = issued; released = out; items = count } in
       let closed = closes (items run) (log run) (events job) (job_items job) (shown_whole hart (first_state job) run (job_runs job marked)) whole.closes in
       let ends : turns.ending_of closing.over ≡ Some (record { steps = run.steps; cause = run.cause }) = closed.ending ∙ ap end_back (reverse-last (turns_log 0 0 run.turns) (End run.steps run.cause)) in
       let issued : turns.issued_of closing.over ≡ told.issued = whole.closes.issued ∙ ap length (job_output job marked) in
@@ -90,23 +89,23 @@ module _ (job : Job) (places : List ℕ) (closing : Closing) (are : AreReplicas 
       record {
         closes = closed;
         facts =
-            ap (λ o. option_map facts_of (option_map (facts_with closing) o)) ends
+            ap (option_map (facts_with closing)) ends
             ∙ ap Some (ap (λ n. fill n (turns.released_of closing.over) (turns.appended_of closing.over)) issued ∙ ap (λ n. fill told.issued n (turns.appended_of closing.over)) out ∙ ap (fill told.issued told.released) closed.appended);
         none = whole.none;
       }
 
   -- a run that a failed put has ended
-  pub closes_cut : (count put : ℕ) → turns.ClosesFront replicas_follow (course_of job places) count put closing.over → IsCutRun job count put closing
-  closes_cut count put front =
+  pub closes_cut : (count put : ℕ) → turns.IsCutRun replicas_follow (course_of job places) count put closing.over → IsCutRun job count put closing
+  closes_cut count put cut =
       let run = finished job in
       let marked = are.runnable.marked in
       let prefix : turns.records_of (take count (items run)) ≡ take count (log run) = sym (take-map (λ (i : Item). i.item) count (items run)) ∙ ap (take count) (job_items job) in
       let long : length (items run) ≡ length (log run) = sym (length-map (items run) (λ (i : Item). i.item)) ∙ ap length (job_items job) in
       record {
-        within = omega (arith, front.within, long);
+        within = omega (arith, cut.within, long);
         closes =
             closes (take count (items run)) (take count (log run)) _ prefix
-            (shown_by_steps hart (λ (s : State). s.step) hart_counts (first_state job) run (take count (log run)) refl (job_runs job marked) (take_IsPrefix count (log run))) front.closes;
-        released = front.released;
-        there = omega (arith, front.there, ap length (course_let_out job places are.required count));
+            (shown_by_steps hart (λ (s : State). s.step) hart_counts (first_state job) run (take count (log run)) refl (job_runs job marked) (take_IsPrefix count (log run))) cut.closes;
+        released = cut.released;
+        there = omega (arith, cut.there, ap length (course_let_out job places are.required count));
       }

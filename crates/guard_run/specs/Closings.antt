@@ -7,14 +7,13 @@ use Rattle.run_events.specs.declared.record.Record.{Record}
 use Rattle.run_events.specs.Record.{dmas_at, reach}
 use Rattle.any_machine.specs.Log.{log}
 use Rattle.any_machine.specs.Run.{events_before, words_before}
+use Rattle.analysis_model.specs.declared.facts.RunFacts.{RunFacts}
 use Rattle.analysis_model.specs.Made.{make_of}
 use Rattle.gate_core.specs.declared.verdict.Verdict.{Verdict}
 use Rattle.job_model.specs.Job.{Job, events, finished}
 use Rattle.job_model.specs.Text.{facts}
 use Rattle.analysis_set.specs.declared.any_analysis.AnyAnalysis.{AnyAnalysis}
-use Rattle.analysis_set.specs.declared.head.RunFacts.{RunFacts}
 use Rattle.analysis_set.specs.Analysis.{HasSeen, kib_of, made_of}
-use Rattle.analysis_set.specs.Head.{facts_of}
 use Rattle.turn_run.specs.declared.ending.Ending.{Ending}
 use Rattle.turn_run.specs.Closings as turns
 use Rattle.turn_run.specs.Endings.{end_in}
@@ -76,7 +75,7 @@ pub record IsAnalysisAt (closing : Closing) (number : ℕ) (analysis : AnyAnalys
 
 -- A replica of a job with an analysis of this kind has taken these records: it replayed them for the job's guest, its
 -- analysis stands for these events, which they show, and what it says of them is posted.
-pub record HasRead (job : Job) (kind : Kind) (items : List Record) (shown : List Event) (replica : Replica) (verdict : Verdict) : Type 0 where
+pub record HasFollowed (job : Job) (kind : Kind) (items : List Record) (shown : List Event) (replica : Replica) (verdict : Verdict) : Type 0 where
   pub made : make_now replica ≡ record { image = job.image; ram_kib = job.ram_kib; kind = kind }
   pub taken : HasTaken replica items
   pub seen : HasSeen (analysis_of replica) shown
@@ -93,14 +92,14 @@ pub record Closes (job : Job) (items : List Record) (shown : List Event) (closin
   pub readers : readers_of closing ≡ length job.kinds
   pub taken : (number : ℕ) → number < length job.kinds → taken_of closing number ≡ length items
   pub replicas : length (replicas_of closing) ≡ length job.kinds
-  pub each : (number : ℕ) (kind : Kind) (replica : Replica) → slice_get job.kinds number ≡ Some kind → slice_get (replicas_of closing) number ≡ Some replica → HasRead job kind items shown replica (posted_of closing number)
+  pub each : (number : ℕ) (kind : Kind) (replica : Replica) → slice_get job.kinds number ≡ Some kind → slice_get (replicas_of closing) number ≡ Some replica → HasFollowed job kind items shown replica (posted_of closing number)
   pub ending : turns.ending_of closing.over ≡ end_in items
 
 -- The closing of a run that went to its end: its list is the job's log, each analysis stands for all events, the facts are
 -- the job's, and the gate holds no byte.
 pub record IsWholeRun (job : Job) (closing : Closing) : Type 0 where
   pub closes : Closes job (log (finished job)) (events job) closing
-  pub facts : option_map facts_of (facts_at closing) ≡ Some (facts job)
+  pub facts : facts_at closing ≡ Some (facts job)
   pub none : waiting_of closing ≡ []
 
 -- the events that some of a job's records reach: those of the steps below, and the words of the step that follows whose

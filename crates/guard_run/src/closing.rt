@@ -3,7 +3,8 @@ ghost use Rattle.std.specs.Prelude.{◌≡◌, ◌<◌, length};
 ghost use Rattle.guard_run.specs.Closings.{IsAnalysisAt, appended_of, facts_at, readers_of, replicas_of, taken_of};
 
 use crate::Replica;
-use analysis_set::{AnyAnalysis, RunFacts};
+use analysis_model::RunFacts;
+use analysis_set::AnyAnalysis;
 use turn_run::Ending;
 
 /// What stands when the run of a job is over: the log, the replicas that have read it to its close, and the gate.

@@ -34,7 +34,8 @@ impl Parts {
         disk: Vec<u8>,
     ) -> Result<Parts, NoMemory>
         requires { IsRunnable (job_of job.now image.now script disk.items) }
-        ensures { IfOk result (λ parts. IsOpened (job_of job.now image.now script disk.items) parts) }
+        ensures { IfOk result (λ parts.
+            IsOpened (job_of job.now image.now script disk.items) parts) }
     {
         let machine = Machine::new(alloc, image, script, disk, job.ram_kib, job.limit)?;
         let replicas = replicas_of(alloc, job, image)?;

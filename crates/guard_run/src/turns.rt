@@ -26,10 +26,7 @@ pub fn run_turns<O: Sink>(parts: &mut Parts, turns: &[Letter], out: &mut O) -> R
     ensures turns { OnOk result (TakesTurns O.told turns.now parts.old parts.new out.old out.new) }
     ensures stops { OnErr result (StopsBy O.told turns.now parts.old parts.new out.old out.new) }
 {
-    match turn_run::run_turns(&mut parts.run, turns, out) {
-        Ok(()) => Ok(()),
-        Err(fault) => Err(fault),
-    }
+    turn_run::run_turns(&mut parts.run, turns, out)
 }
 
 impl Parts {

@@ -8,11 +8,12 @@ use Rattle.run_events.specs.declared.record.EndCause.TheVariants.{Power, Limit}
 use Rattle.any_machine.specs.Log.{log, output}
 use Rattle.analysis_model.specs.Complaints.{Guest, findings}
 use Rattle.analysis_model.specs.Findings.{first_step}
-use Rattle.analysis_model.specs.Report.{Facts, head_text, part_text}
+use Rattle.analysis_model.specs.declared.facts.RunFacts.{RunFacts}
+use Rattle.analysis_model.specs.Report.{head_text, part_text}
 use Rattle.job_model.specs.Job.{Job, finished, events, guest, released, released_bytes}
 
 -- what the head of a job's report tells; of the log it tells the number of records
-abbrev pub facts : Job → Facts
+abbrev pub facts : Job → RunFacts
 facts job = record {
   steps = (finished job).steps;
   end = (finished job).cause;

@@ -55,7 +55,13 @@ impl Model for Locks {
 
     ghost Value = { LockState };
 
-    ghost view = { λ l. record { ram_kib = l.ram_kib; context = l.context; locks = l.locks.items; guards = l.guards.items; found = l.found } };
+    ghost view = { λ l. record {
+      ram_kib = l.ram_kib;
+      context = l.context;
+      locks = l.locks.items;
+      guards = l.guards.items;
+      found = l.found;
+    } };
 
     ghost invariant = { λ l. (vec_capacity l.locks ≡ 256) × (vec_capacity l.guards ≡ 256)
         × (length l.guarded.bytes ≡ 1024 * l.ram_kib) × AreShaded l.guarded l.guards.items };
@@ -180,8 +186,9 @@ impl Locks {
     #[inline(always)]
     fn is_unguarded(&self, address: u32) -> bool
         ensures { result ≡ true → (width : ℕ) → width ≤ 4
-            → InRam (1024 * self.now.ram_kib) address width →
-            least_from (is_open self.now.locks self.now.context self.now.guards) address width ≡ None }
+            → InRam (1024 * self.now.ram_kib) address width
+            → least_from (is_open self.now.locks self.now.context self.now.guards) address width
+            ≡ None }
     {
         self.guarded.is_clear(address, GUARDED)
     }

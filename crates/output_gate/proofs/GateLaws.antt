@@ -4,7 +4,7 @@ use Rattle.std.specs.List.{filter}
 use Rattle.std.proofs.lemmas.Bool.{cases_lt}
 use Rattle.std.proofs.lemmas.List.Sums.{length-filter, count_by-le-length}
 use Rattle.std.proofs.lemmas.Option.{none-some, slice_get-get_or}
-use Rattle.output_gate.specs.Gate.{Climbs, count_below, behind}
+use Rattle.output_gate.specs.Gate.{Climbs, count_below, passed_after}
 
 -- where no item is found, the place is past the end
 pub no_item_past : (items : List ℕ) (place : ℕ) → slice_get items place ≡ None → place < length items → ⊥
@@ -26,7 +26,7 @@ Climbs-at [] low high k climbs less = absurd (omega arith)
 Climbs-at (step ∷ steps) low high zero climbs less = omega (arith, Climbs-span steps (step + 1) high climbs.1)
 Climbs-at (step ∷ steps) low high (suc k) climbs less = Climbs-at steps (step + 1) high k climbs.1 (omega arith)
 
--- one step more behind them
+-- one step more after them
 pub Climbs-push : (steps : List ℕ) (low high step more : ℕ) → Climbs low steps high → high ≤ step → step < more → Climbs low (steps ++ step ∷ []) more
 Climbs-push [] low high step more climbs h m = (omega (arith, climbs), omega arith)
 Climbs-push (first ∷ steps) low high step more climbs h m = (climbs.0, Climbs-push steps (first + 1) high step more climbs.1 h m)
@@ -37,8 +37,8 @@ Climbs-take zero steps low high climbs = Climbs-span steps low high climbs
 Climbs-take (suc count) [] low high climbs = climbs
 Climbs-take (suc count) (step ∷ steps) low high climbs = (climbs.0, Climbs-take count steps (step + 1) high climbs.1)
 
--- those behind the first
-pub Climbs-drop : (count : ℕ) (steps : List ℕ) (low high : ℕ) → Climbs low steps high → Climbs (behind low (take count steps)) (drop count steps) high
+-- those after the first
+pub Climbs-drop : (count : ℕ) (steps : List ℕ) (low high : ℕ) → Climbs low steps high → Climbs (passed_after low (take count steps)) (drop count steps) high
 Climbs-drop zero steps low high climbs = climbs
 Climbs-drop (suc count) [] low high climbs = climbs
 Climbs-drop (suc count) (step ∷ steps) low high climbs = Climbs-drop count steps (step + 1) high climbs.1
@@ -49,10 +49,10 @@ Climbs-min [] low high other first second = omega (arith, first, second)
 Climbs-min (step ∷ steps) low high other first second = (first.0, Climbs-min steps (step + 1) high other first.1 second.1)
 
 -- one more than the last of the first steps
-pub behind-at : (steps : List ℕ) (low k : ℕ) → k < length steps → behind low (take (suc k) steps) ≡ slice_index steps k + 1
-behind-at [] low k less = absurd (omega arith)
-behind-at (step ∷ steps) low zero less = refl
-behind-at (step ∷ steps) low (suc k) less = behind-at steps (step + 1) k (omega arith)
+pub passed_after-at : (steps : List ℕ) (low k : ℕ) → k < length steps → passed_after low (take (suc k) steps) ≡ slice_index steps k + 1
+passed_after-at [] low k less = absurd (omega arith)
+passed_after-at (step ∷ steps) low zero less = refl
+passed_after-at (step ∷ steps) low (suc k) less = passed_after-at steps (step + 1) k (omega arith)
 
 -- what climbs from a step on has none below it
 pub count_below-none : (steps : List ℕ) (low high below : ℕ) → below ≤ low → Climbs low steps high → count_below below steps ≡ 0

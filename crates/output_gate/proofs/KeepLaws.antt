@@ -4,7 +4,7 @@ use Rattle.std.proofs.Common.{◌≡◌, ℕ, ◌+◌, ◌-◌, ◌<◌, ◌≤�
 use Rattle.std.specs.Prelude.{IfSome}
 use Rattle.std.proofs.lemmas.List.{length-drop, length-take-le, length_push}
 use Rattle.circular_buffer.specs.Buffer.{keep_last}
-use Rattle.output_gate.specs.Gate.{GateState, IsGate, Climbs, behind, count_below, is_withheld, least_from, with_release, with_withheld}
+use Rattle.output_gate.specs.Gate.{GateState, IsGate, Climbs, passed_after, count_below, is_withheld, first_withheld, with_release, with_withheld}
 use Rattle.output_gate.proofs.GateLaws.{Climbs-wider, Climbs-push, Climbs-take, Climbs-drop, Climbs-min, Climbs-below, count_below-within}
 
 -- where a ring is not full, fewer items than it may hold are in it
@@ -26,11 +26,11 @@ push-below : (from : Option ℕ) (steps : List ℕ) (low high step : ℕ) → is
 push-below None steps low high step other climbs h = tt
 push-below (Some f) steps low high step other climbs h = Climbs-push steps low high step f climbs h (grind arith)
 
-drop-below : (from : Option ℕ) (steps : List ℕ) (low count : ℕ) → IfSome from (λ f. Climbs low steps f) → IfSome from (λ f. Climbs (behind low (take count steps)) (drop count steps) f)
+drop-below : (from : Option ℕ) (steps : List ℕ) (low count : ℕ) → IfSome from (λ f. Climbs low steps f) → IfSome from (λ f. Climbs (passed_after low (take count steps)) (drop count steps) f)
 drop-below None steps low count was = tt
 drop-below (Some f) steps low count was = Climbs-drop count steps low f was
 
-take-below : (from : Option ℕ) (steps : List ℕ) (low high step : ℕ) → IfSome from (λ f. Climbs low steps f) → Climbs low steps high → low ≤ step → Climbs low (take (count_below step steps) steps) (least_from from step)
+take-below : (from : Option ℕ) (steps : List ℕ) (low high step : ℕ) → IfSome from (λ f. Climbs low steps f) → Climbs low steps high → low ≤ step → Climbs low (take (count_below step steps) steps) (first_withheld from step)
 take-below None steps low high step was climbs l = Climbs-below steps low high step climbs l
 take-below (Some f) steps low high step was climbs l =
     Climbs-min (take (count_below step steps) steps) low f step (Climbs-take (count_below step steps) steps low f was) (Climbs-below steps low high step climbs l)

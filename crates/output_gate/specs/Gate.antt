@@ -44,7 +44,7 @@ abbrev pub is_withheld : Option ℕ → ℕ → Bool
 is_withheld None step = false
 is_withheld (Some from) step = nat_le from step
 
--- after a byte was issued: it waits behind the others, or is withheld; nothing where no byte more may wait
+-- after a byte was issued: it waits after the others, or is withheld; nothing where no byte more may wait
 abbrev pub with_issue : GateState → ℕ → ℕ → GateState
 with_issue g step byte =
     if is_full g then g
@@ -56,21 +56,21 @@ abbrev pub count_below : ℕ → List ℕ → ℕ
 count_below below steps = length (filter (λ step. nat_lt step below) steps)
 
 -- one more than the last of some steps, or what it was before them
-abbrev pub behind : ℕ → List ℕ → ℕ
-behind low [] = low
-behind low (step ∷ steps) = behind (step + 1) steps
+abbrev pub passed_after : ℕ → List ℕ → ℕ
+passed_after low [] = low
+passed_after low (step ∷ steps) = passed_after (step + 1) steps
 
 -- after the first so many waiting bytes were put, and after a put of them failed
 abbrev pub with_release : GateState → ℕ → GateState
-with_release g count = record g { steps = drop count g.steps; bytes = drop count g.bytes; released = g.released + count; passed = behind g.passed (take count g.steps) }
+with_release g count = record g { steps = drop count g.steps; bytes = drop count g.bytes; released = g.released + count; passed = passed_after g.passed (take count g.steps) }
 
 abbrev pub with_failure : GateState → ℕ → GateState
-with_failure g count = record g { passed = behind g.passed (take count g.steps); failed = true }
+with_failure g count = record g { passed = passed_after g.passed (take count g.steps); failed = true }
 
 -- the lesser of the step from which on all was withheld so far, and this one
-abbrev pub least_from : Option ℕ → ℕ → ℕ
-least_from None step = step
-least_from (Some from) step = min from step
+abbrev pub first_withheld : Option ℕ → ℕ → ℕ
+first_withheld None step = step
+first_withheld (Some from) step = min from step
 
 -- after the waiting bytes of all steps from this one on were dropped
 abbrev pub with_withheld : GateState → ℕ → GateState
@@ -78,5 +78,5 @@ with_withheld g step = record g {
   steps = take (count_below step g.steps) g.steps;
   bytes = take (count_below step g.steps) g.bytes;
   withheld = g.withheld + (length g.steps - count_below step g.steps);
-  from = Some (least_from g.from step);
+  from = Some (first_withheld g.from step);
 }

@@ -3,7 +3,7 @@ ghost use Rattle.memory_map.specs.declared.TheConstants.{MOST_STEPS};
 ghost use Rattle.std.specs.Prelude.{◌≡◌, ◌+◌, ◌<◌, ◌≤◌, false, length, take, drop, is_err, IfOk, OnOk, OnErr};
 ghost use Rattle.after_edge.specs.Sink.{Writes, WritesPart};
 ghost use Rattle.circular_buffer.specs.Buffer.{buffer};
-ghost use Rattle.output_gate.specs.Gate.{Climbs, behind, count_below, empty_gate, is_full, is_withheld, least_from, with_failure, with_issue, with_release, with_withheld};
+ghost use Rattle.output_gate.specs.Gate.{Climbs, passed_after, count_below, empty_gate, is_full, is_withheld, first_withheld, with_failure, with_issue, with_release, with_withheld};
 
 use after_edge::{Failed, Sink};
 use circular_buffer::HeapCircularBuffer;
@@ -44,9 +44,31 @@ impl Model for OutputGate {
 
     ghost Value = { GateState };
 
-    ghost view = { λ g. record { steps = g.steps.items; bytes = g.bytes.items; issued = g.issued; released = g.released; withheld = g.withheld; next = g.next; passed = g.passed; from = g.from; failed = g.failed } };
+    ghost view = { λ g. record {
+      steps = g.steps.items;
+      bytes = g.bytes.items;
+      issued = g.issued;
+      released = g.released;
+      withheld = g.withheld;
+      next = g.next;
+      passed = g.passed;
+      from = g.from;
+      failed = g.failed;
+    } };
 
-    ghost invariant = { λ g. (g.steps.capacity ≡ 4096) × (g.bytes.capacity ≡ 4096) × IsGate (record { steps = g.steps.items; bytes = g.bytes.items; issued = g.issued; released = g.released; withheld = g.withheld; next = g.next; passed = g.passed; from = g.from; failed = g.failed }) };
+    ghost invariant = { λ g. (g.steps.capacity ≡ 4096)
+        × (g.bytes.capacity ≡ 4096)
+        × IsGate (record {
+          steps = g.steps.items;
+          bytes = g.bytes.items;
+          issued = g.issued;
+          released = g.released;
+          withheld = g.withheld;
+          next = g.next;
+          passed = g.passed;
+          from = g.from;
+          failed = g.failed;
+        }) };
 }
 
 impl OutputGate {
@@ -91,17 +113,21 @@ impl OutputGate {
     }
 
     /// Puts the waiting bytes whose steps are below this one, at most 4,096, in order, and answers how many they are. It
-    /// leaves the sink alone where there are none. After a put that failed the gate is failed: some front of them went
+    /// leaves the sink alone where there are none. After a put that failed the gate is failed: some prefix of them went
     /// out, all of them still count as waiting, and only the calls that tell numbers may follow.
     pub fn release<O: Sink>(&mut self, below: u32, out: &mut O) -> Result<u32, SinkFault>
         requires sound { self.old.failed ≡ false }
         ensures count { IfOk result (λ count. count ≡ count_below below self.old.steps) }
-        ensures ok { OnOk result (Writes O.told out.old out.new (take (count_below below self.old.steps) self.old.bytes)) }
-        ensures err { OnErr result (WritesPart O.told out.old out.new (take (count_below below self.old.steps) self.old.bytes)) }
+        ensures ok { OnOk result (Writes O.told out.old out.new
+            (take (count_below below self.old.steps) self.old.bytes)) }
+        ensures err { OnErr result (WritesPart O.told out.old out.new
+            (take (count_below below self.old.steps) self.old.bytes)) }
         ensures some { OnErr result (1 ≤ count_below below self.old.steps) }
         ensures none { count_below below self.old.steps ≡ 0 → out.new ≡ out.old }
-        ensures released { OnOk result (self.new ≡ with_release self.old (count_below below self.old.steps)) }
-        ensures failed { OnErr result (self.new ≡ with_failure self.old (count_below below self.old.steps)) }
+        ensures released { OnOk result (self.new
+            ≡ with_release self.old (count_below below self.old.steps)) }
+        ensures failed { OnErr result (self.new
+            ≡ with_failure self.old (count_below below self.old.steps)) }
     {
         let count = count_below(below, &self.steps);
         if count == 0 {
@@ -133,7 +159,7 @@ impl OutputGate {
         self.withheld += (self.steps.len() - kept) as u32;
         self.steps.truncate_back(kept);
         self.bytes.truncate_back(kept);
-        self.from = Some(least_from(self.from, from));
+        self.from = Some(first_withheld(self.from, from));
     }
 
     /// How many bytes were issued: as many as are released, wait and are withheld together.
@@ -185,8 +211,8 @@ fn is_withheld(from: Option<u32>, step: u32) -> bool
 }
 
 // The lesser of the step from which on all was withheld so far, and this one.
-fn least_from(before: Option<u32>, from: u32) -> u32
-    ensures { result ≡ least_from before from }
+fn first_withheld(before: Option<u32>, from: u32) -> u32
+    ensures { result ≡ first_withheld before from }
 {
     match before {
         Some(first) => first.min(from),
@@ -213,7 +239,7 @@ fn count_below(below: u32, steps: &HeapCircularBuffer<u32>) -> usize
 fn end_of(before: u32, steps: &HeapCircularBuffer<u32>, count: usize) -> u32
     requires climbs { Climbs 0 steps.now.items MOST_STEPS }
     requires within { count ≤ length steps.now.items }
-    ensures { result ≡ behind before (take count steps.now.items) }
+    ensures { result ≡ passed_after before (take count steps.now.items) }
 {
     if count == 0 {
         return before;

@@ -36,7 +36,7 @@ fn free(step: u32, address: u32, size: u32) -> Event
     announce(step, 0x0020_2013, address, size)
 }
 
-// LB x5, 0(x10), this many bytes behind the start of RAM.
+// LB x5, 0(x10), this many bytes after the start of RAM.
 fn byte_load(step: u32, offset: u32) -> Event
     requires { offset < 65536 }
     ensures { Fits 64 result }

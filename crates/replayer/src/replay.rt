@@ -4,7 +4,6 @@ use elf_image::Image;
 use memory_map::{CrossesThreads, NoMemory};
 use run_events::{Record, Watcher};
 use rv_cpu::Cpu;
-use rv_memory::Ram;
 use std::alloc::Global;
 
 /// A hart without devices that is fed a list of records. Contracts see the list by `Replays`.
@@ -42,8 +41,7 @@ impl Replay {
         ensures size { IfOk result (λ replay. ram_size_of replay ≡ 1024 * ram_kib) }
         ensures takes { IfOk result (λ replay. takes_of replay ≡ 0) }
     {
-        let mut ram = Ram::new(alloc, ram_kib)?;
-        image.load_into(&mut ram);
+        let ram = image.start_ram(alloc, ram_kib)?;
         Ok(Replay {
             fed: any_replay::Replay::new(Cpu::new(ram, image.entry)),
         })

@@ -48,7 +48,6 @@ pub struct Machine {
 impl CrossesThreads for Machine {}
 
 // The hart of a guest before its first step, over the RAM that its image fills.
-#[tactic(auto, unfolding(machine_model::specs::Image::ram_at_start))]
 fn start(alloc: Global, image: &Image, ram_kib: u32) -> Result<Cpu, NoMemory>
     requires least { LEAST_RAM_KIB ≤ ram_kib }
     requires most { ram_kib ≤ MOST_RAM_KIB }
@@ -57,8 +56,7 @@ fn start(alloc: Global, image: &Image, ram_kib: u32) -> Result<Cpu, NoMemory>
     ensures start { IfOk result (λ cpu. cpu ≡ started image.now ram_kib) }
     ensures size { IfOk result (λ cpu. length cpu.ram ≡ 1024 * ram_kib) }
 {
-    let mut ram = Ram::new(alloc, ram_kib)?;
-    image.load_into(&mut ram);
+    let ram = image.start_ram(alloc, ram_kib)?;
     Ok(Cpu::new(ram, image.entry))
 }
 

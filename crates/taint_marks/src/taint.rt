@@ -63,9 +63,16 @@ impl Model for Taint {
 
     ghost Value = { Marks };
 
-    ghost view = { λ t. record { ram_kib = t.ram_kib; registers = t.registers; scratch = t.scratch; shade = t.shadow; found = t.found } };
+    ghost view = { λ t. record {
+      ram_kib = t.ram_kib;
+      registers = t.registers;
+      scratch = t.scratch;
+      shade = t.shadow;
+      found = t.found;
+    } };
 
-    ghost invariant = { λ t. (t.ram_kib ≤ MOST_RAM_KIB) × (length t.shadow.bytes ≡ 1024 * t.ram_kib) };
+    ghost invariant = { λ t. (t.ram_kib ≤ MOST_RAM_KIB)
+        × (length t.shadow.bytes ≡ 1024 * t.ram_kib) };
 }
 
 impl Watcher for Taint {

@@ -46,7 +46,7 @@ follows_as f c core hub followers fs appended closed hub' stands sound =
       posted = λ reader follower at. ap (λ l. slice_index_or l reader no_verdict) posted ∙ fs.posted reader follower at;
     }
 
--- where there is room, no reader stands a whole log behind, and the gate takes the byte
+-- where there is room, no reader has a whole log still to take, and the gate takes the byte
 rooms : (o : Option Full) (crowded : Bool) → true ≡ (not (is_some o) && not crowded) → (o ≡ None) × (crowded ≡ false)
 rooms None crowded room = (refl, not-true crowded (sym room))
 rooms (Some full) crowded room = absurd (let clash : true ≡ false = room in cc)
@@ -139,7 +139,7 @@ module _ {M F : Type 0} (r : Recording M) (f : Following F) (c : Course) (core :
       sound = at.sound;
     }
 
-    -- some reader stands a whole log behind, or the gate is full
+    -- some reader has a whole log still to take, or the gate is full
     no_room : (o : Option Full) → full_of parts.hub ≡ o → (not (is_some o) && not (is_some item.byte && is_full parts.gate)) ≡ false → HasNoRoom r f c core (length parts.gate.steps)
     no_room (Some full) here none =
         let one = named core.taken core.appended c.cap full (ap full_of (sym at.follows.stands) ∙ here) in

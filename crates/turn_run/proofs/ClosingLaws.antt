@@ -11,7 +11,7 @@ use Rattle.gate_core.specs.Hub.{HubState, verdict_at}
 use Rattle.turn_run.specs.declared.closing.Closing.{Closing}
 use Rattle.turn_run.specs.declared.parts.Parts.{Parts}
 use Rattle.turn_run.specs.Following.{Following}
-use Rattle.turn_run.specs.Closings.{Closes, ClosesFront, ClosesWhole, HasFollowed, IsEnded, IsStopped, records_of}
+use Rattle.turn_run.specs.Closings.{Closes, IsCutRun, IsWholeRun, HasFollowed, IsEnded, IsStopped, records_of}
 use Rattle.turn_run.specs.Course.{Course, Agrees, log_of}
 use Rattle.turn_run.specs.Endings.{end_in}
 use Rattle.turn_run.specs.Gates.{issued_by}
@@ -62,7 +62,7 @@ module _ {M F : Type 0} (f : Following F) (c : Course) (core : CoreState) (parts
       }
 
 module _ {M F : Type 0} (r : Recording M) (f : Following F) (c : Course) (parts : Parts M F) where
-  pub closes_whole : IsEnded r f c parts → ClosesWhole f c (closing_of parts)
+  pub closes_whole : IsEnded r f c parts → IsWholeRun f c (closing_of parts)
   closes_whole ended =
       let all : take ended.core.appended c.items ≡ c.items = take_all ended.core.appended c.items (omega (arith, ended.appended)) in
       record {
@@ -71,8 +71,8 @@ module _ {M F : Type 0} (r : Recording M) (f : Following F) (c : Course) (parts 
         none = ended.none;
       }
 
-  pub closes_front : (count put : ℕ) → IsStopped r f c count put parts → ClosesFront f c count put (closing_of parts)
-  closes_front count put stopped =
+  pub closes_cut : (count put : ℕ) → IsStopped r f c count put parts → IsCutRun f c count put (closing_of parts)
+  closes_cut count put stopped =
       let b = stopped.broken in
       record {
         within = omega (arith, b.follows.sound.appended, length_log c b.follows.course, stopped.appended);

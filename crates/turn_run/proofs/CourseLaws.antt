@@ -12,14 +12,14 @@ use Rattle.run_events.specs.declared.item.Item.{Item}
 use Rattle.run_events.specs.Record.{IsRecord, number, reach}
 use Rattle.run_events.proofs.RecordLaws.{reach_push}
 use Rattle.any_machine.specs.Log.{byte_of, bytes_of}
-use Rattle.gate_core.specs.Core.{IsPlan, RisesFrom, reached}
+use Rattle.gate_core.specs.Core.{IsPlan, StepsRise, reached}
 use Rattle.gate_core.proofs.CoreLaws.{reach_rises}
 use Rattle.output_gate.specs.Gate.{Climbs}
 use Rattle.output_gate.proofs.GateLaws.{Climbs-wider, Climbs-at}
 use Rattle.turn_run.specs.Course.{Course, IsCourse, IsMarked, log_of, output_of, steps_of, plan_of, end_of}
 use Rattle.turn_run.specs.Gates.{issued_by}
 
-rises_of : (low high : ℕ) (steps : List ℕ) → Climbs low steps high → RisesFrom low steps
+rises_of : (low high : ℕ) (steps : List ℕ) → Climbs low steps high → StepsRise low steps
 rises_of low high [] climbs = tt
 rises_of low high (step ∷ steps) climbs = (climbs.0, rises_of step high steps (Climbs-wider steps (step + 1) step high high (omega arith) (omega arith) climbs.1))
 

@@ -18,7 +18,7 @@ use Rattle.turn_run.specs.declared.parts.Parts.{Parts}
 use Rattle.turn_run.specs.Following.{Following}
 use Rattle.turn_run.specs.Closings.{HasEnded, HasStopped, IsReadOut, IsStopped}
 use Rattle.turn_run.specs.Course.{Course, IsCourse, bytes_in, end_of, output_of, plan_of, released_bytes, steps_of, stop_of}
-use Rattle.turn_run.specs.Gates.{IsWithheldFrom, issued_by, kept, released_by, still_waiting}
+use Rattle.turn_run.specs.Gates.{IsWithheldFrom, issued_by, not_withheld, released_by, still_waiting}
 use Rattle.turn_run.specs.Runs.{AllTaken, HasCome, HasCrashed, HasReleased, IsAt, bytes_between, with_released}
 use Rattle.turn_run.proofs.CourseLaws.{is_plan, issued_IsPrefix, issued_all, length_log, reach_whole}
 use Rattle.turn_run.proofs.LeastLaws.{least-each}
@@ -89,7 +89,7 @@ module _ {M F : Type 0} (r : Recording M) (f : Following F) (c : Course) (core :
 
   -- were the next byte approved, it would wait
   kept_more : (step : ℕ) → core.released < length (output_of c) → slice_index (steps_of (output_of c)) core.released ≡ step → ((reader : ℕ) → IsRequired (plan_of c) reader → step < slice_index core.approved reader)
-      → (o : Option ℕ) → IsWithheldFrom c o → core.released < length (kept o (output_of c))
+      → (o : Option ℕ) → IsWithheldFrom c o → core.released < length (not_withheld o (output_of c))
   kept_more step less step_is approved None withheld = less
   kept_more step less step_is approved (Some from) limit =
       let reader : ℕ = slice_index c.required limit.place in
@@ -106,10 +106,10 @@ module _ {M F : Type 0} (r : Recording M) (f : Following F) (c : Course) (core :
       let there = may.there in
       let some = may.some in
       let less : core.released < length (output_of c) = omega (arith, there, some, length_steps) in
-      let shown = may.shown core.released (omega arith) (omega (arith, some)) in
-      let waits = kept_more (slice_index (steps_of (output_of c)) core.released) less refl shown.approved parts.gate.from at.gates.withheld in
+      let next = may.may_go core.released (omega arith) (omega (arith, some)) in
+      let waits = kept_more (slice_index (steps_of (output_of c)) core.released) less refl next.approved parts.gate.from at.gates.withheld in
       let all : issued_by c core.appended ≡ output_of c = issued_all c is core.appended (omega (arith, whole)) in
-      let left : length (still_waiting c core parts.gate.from) ≡ length (kept parts.gate.from (output_of c)) - core.released = length-drop core.released (kept parts.gate.from (issued_by c core.appended)) ∙ ap (λ l. length (kept parts.gate.from l) - core.released) all in
+      let left : length (still_waiting c core parts.gate.from) ≡ length (not_withheld parts.gate.from (output_of c)) - core.released = length-drop core.released (not_withheld parts.gate.from (issued_by c core.appended)) ∙ ap (λ l. length (not_withheld parts.gate.from l) - core.released) all in
       let empty : length (still_waiting c core parts.gate.from) ≡ 0 = sym (length-map (still_waiting c core parts.gate.from) (λ (byte : ℕ × ℕ). byte.0)) ∙ ap length (sym at.gates.steps ∙ none) in
       omega (arith, waits, left, empty)
 

@@ -13,11 +13,11 @@ use Rattle.run_events.specs.Record.{number}
 use Rattle.run_events.specs.declared.record.Record.TheVariants.{Reach}
 use Rattle.run_events.specs.declared.item.Item.{Item}
 use Rattle.any_machine.specs.Log.{before_step, byte_of}
-use Rattle.gate_core.specs.Core.{CoreState, Append, after_event, reached}
-use Rattle.output_gate.specs.Gate.{GateState, Climbs, behind, is_full, is_withheld, with_issue}
+use Rattle.gate_core.specs.Core.{CoreState, Append, core_after, reached}
+use Rattle.output_gate.specs.Gate.{GateState, Climbs, passed_after, is_full, is_withheld, with_issue}
 use Rattle.turn_run.specs.Course.{Course, IsCourse, steps_of, bytes_in, output_of, plan_of, end_of}
-use Rattle.turn_run.specs.Gates.{Gates, issued_by, kept, still_waiting, with_item, with_byte}
-use Rattle.turn_run.proofs.ListLaws.{AllBelow, behind-le, behind-push}
+use Rattle.turn_run.specs.Gates.{Gates, issued_by, not_withheld, still_waiting, with_item, with_byte}
+use Rattle.turn_run.proofs.ListLaws.{AllBelow, passed_after-le, passed_after-push}
 use Rattle.turn_run.proofs.CourseLaws.{IsNext, issued_IsPrefix, next_item, reach_less}
 
 -- what an issue comes to
@@ -36,28 +36,28 @@ module _ (g : GateState) (step byte : ℕ) (room : is_full g ≡ false) where
   unfolding waits drops
   issue_drops is_so = ap (λ b. cond b g (cond (is_withheld g.from step) drops waits)) room ∙ ap (λ b. cond b drops waits) is_so
 
--- one byte more that is kept, or not
+-- one byte more, that is withheld or not
 below_one : (from : ℕ) (byte : ℕ × ℕ) (b : Bool) → nat_le from byte.0 ≡ b → before_step from (byte ∷ []) ≡ cond b [] (byte ∷ [])
 below_one from byte true is = ap (λ b. cond b (byte ∷ []) []) (let not : nat_lt byte.0 from ≡ false = grind (arith, is) in not)
 below_one from byte false is = ap (λ b. cond b (byte ∷ []) []) (let is_so : nat_lt byte.0 from ≡ true = grind (arith, is) in is_so)
 
-kept-more : (from : Option ℕ) (sent : List (ℕ × ℕ)) (byte : ℕ × ℕ) (b : Bool) → is_withheld from byte.0 ≡ b → kept from (sent ++ byte ∷ []) ≡ kept from sent ++ cond b [] (byte ∷ [])
-kept-more None sent byte b is = ap (λ b. sent ++ cond b [] (byte ∷ [])) is
-kept-more (Some from) sent byte b is = filter-append (λ (byte : ℕ × ℕ). nat_lt byte.0 from) sent (byte ∷ []) ∙ ap (λ l. before_step from sent ++ l) (below_one from byte b is)
+not_withheld-more : (from : Option ℕ) (sent : List (ℕ × ℕ)) (byte : ℕ × ℕ) (b : Bool) → is_withheld from byte.0 ≡ b → not_withheld from (sent ++ byte ∷ []) ≡ not_withheld from sent ++ cond b [] (byte ∷ [])
+not_withheld-more None sent byte b is = ap (λ b. sent ++ cond b [] (byte ∷ [])) is
+not_withheld-more (Some from) sent byte b is = filter-append (λ (byte : ℕ × ℕ). nat_lt byte.0 from) sent (byte ∷ []) ∙ ap (λ l. before_step from sent ++ l) (below_one from byte b is)
 
 module _ (c : Course) (core : CoreState) (gate : GateState) (g : Gates c core gate) where
   -- where no byte was issued, nothing has changed for the gate
-  still : issued_by c (core.appended + 1) ≡ issued_by c core.appended → Gates c (after_event (plan_of c) core Append) gate
+  still : issued_by c (core.appended + 1) ≡ issued_by c core.appended → Gates c (core_after (plan_of c) core Append) gate
   still same = record {
-    steps = g.steps ∙ ap (λ l. steps_of (drop core.released (kept gate.from l))) (sym same);
-    bytes = g.bytes ∙ ap (λ l. bytes_in (drop core.released (kept gate.from l))) (sym same);
+    steps = g.steps ∙ ap (λ l. steps_of (drop core.released (not_withheld gate.from l))) (sym same);
+    bytes = g.bytes ∙ ap (λ l. bytes_in (drop core.released (not_withheld gate.from l))) (sym same);
     issued = g.issued ∙ ap length (sym same);
     released = g.released;
-    last = g.last ∙ ap (λ l. behind 0 (steps_of l)) (sym same);
+    last = g.last ∙ ap (λ l. passed_after 0 (steps_of l)) (sym same);
     passed = g.passed;
     withheld = g.withheld;
     sound = g.sound;
-    there = subst (λ l. core.released ≤ length (kept gate.from l)) (sym same) g.there;
+    there = subst (λ l. core.released ≤ length (not_withheld gate.from l)) (sym same) g.there;
     few = g.few;
   }
 
@@ -65,17 +65,17 @@ module _ (c : Course) (core : CoreState) (gate : GateState) (g : Gates c core ga
     counted : length (issued_by c (core.appended + 1)) ≡ length (issued_by c core.appended) + 1
     counted = ap length more ∙ length_push (issued_by c core.appended) (step, byte)
 
-    last_is : behind 0 (steps_of (issued_by c (core.appended + 1))) ≡ step + 1
-    last_is = ap (λ l. behind 0 (steps_of l)) more ∙ ap (behind 0) (map-append (λ (byte : ℕ × ℕ). byte.0) (issued_by c core.appended) ((step, byte) ∷ [])) ∙ behind-push (steps_of (issued_by c core.appended)) step 0
+    last_is : passed_after 0 (steps_of (issued_by c (core.appended + 1))) ≡ step + 1
+    last_is = ap (λ l. passed_after 0 (steps_of l)) more ∙ ap (passed_after 0) (map-append (λ (byte : ℕ × ℕ). byte.0) (issued_by c core.appended) ((step, byte) ∷ [])) ∙ passed_after-push (steps_of (issued_by c core.appended)) step 0
 
-    kept_is : (b : Bool) → is_withheld gate.from step ≡ b → kept gate.from (issued_by c (core.appended + 1)) ≡ kept gate.from (issued_by c core.appended) ++ cond b [] ((step, byte) ∷ [])
-    kept_is b is = ap (kept gate.from) more ∙ kept-more gate.from (issued_by c core.appended) (step, byte) b is
+    kept_is : (b : Bool) → is_withheld gate.from step ≡ b → not_withheld gate.from (issued_by c (core.appended + 1)) ≡ not_withheld gate.from (issued_by c core.appended) ++ cond b [] ((step, byte) ∷ [])
+    kept_is b is = ap (not_withheld gate.from) more ∙ not_withheld-more gate.from (issued_by c core.appended) (step, byte) b is
 
-    waiting_is : is_withheld gate.from step ≡ false → drop core.released (kept gate.from (issued_by c (core.appended + 1))) ≡ still_waiting c core gate.from ++ (step, byte) ∷ []
-    waiting_is not = ap (drop core.released) (kept_is false not) ∙ drop-append-le core.released (kept gate.from (issued_by c core.appended)) ((step, byte) ∷ []) g.there
+    waiting_is : is_withheld gate.from step ≡ false → drop core.released (not_withheld gate.from (issued_by c (core.appended + 1))) ≡ still_waiting c core gate.from ++ (step, byte) ∷ []
+    waiting_is not = ap (drop core.released) (kept_is false not) ∙ drop-append-le core.released (not_withheld gate.from (issued_by c core.appended)) ((step, byte) ∷ []) g.there
 
-    issued_by_case : (b : Bool) → is_withheld gate.from step ≡ b → Gates c (after_event (plan_of c) core Append) (with_issue gate step byte)
-    issued_by_case false not = subst (Gates c (after_event (plan_of c) core Append)) (sym (issue_waits gate step byte room not)) (record {
+    issued_by_case : (b : Bool) → is_withheld gate.from step ≡ b → Gates c (core_after (plan_of c) core Append) (with_issue gate step byte)
+    issued_by_case false not = subst (Gates c (core_after (plan_of c) core Append)) (sym (issue_waits gate step byte room not)) (record {
       steps = ap (λ l. l ++ step ∷ []) g.steps ∙ sym (map-append (λ (byte : ℕ × ℕ). byte.0) (still_waiting c core gate.from) ((step, byte) ∷ [])) ∙ ap steps_of (sym (waiting_is not));
       bytes = ap (λ l. l ++ byte ∷ []) g.bytes ∙ sym (map-append (λ (byte : ℕ × ℕ). byte.1) (still_waiting c core gate.from) ((step, byte) ∷ [])) ∙ ap bytes_in (sym (waiting_is not));
       issued = ap (λ n. n + 1) g.issued ∙ sym counted;
@@ -84,12 +84,12 @@ module _ (c : Course) (core : CoreState) (gate : GateState) (g : Gates c core ga
       passed = g.passed;
       withheld = g.withheld;
       sound = g.sound;
-      there = omega (arith, ap length (kept_is false not), length_push (kept gate.from (issued_by c core.appended)) (step, byte), g.there);
+      there = omega (arith, ap length (kept_is false not), length_push (not_withheld gate.from (issued_by c core.appended)) (step, byte), g.there);
       few = omega (arith, length_push gate.steps step, eqb-false (length gate.steps) 4096 room, g.few);
     })
     issued_by_case true is_so =
-        let same : kept gate.from (issued_by c (core.appended + 1)) ≡ kept gate.from (issued_by c core.appended) = kept_is true is_so ∙ append-nil (kept gate.from (issued_by c core.appended)) in
-        subst (Gates c (after_event (plan_of c) core Append)) (sym (issue_drops gate step byte room is_so)) (record {
+        let same : not_withheld gate.from (issued_by c (core.appended + 1)) ≡ not_withheld gate.from (issued_by c core.appended) = kept_is true is_so ∙ append-nil (not_withheld gate.from (issued_by c core.appended)) in
+        subst (Gates c (core_after (plan_of c) core Append)) (sym (issue_drops gate step byte room is_so)) (record {
           steps = g.steps ∙ ap (λ l. steps_of (drop core.released l)) (sym same);
           bytes = g.bytes ∙ ap (λ l. bytes_in (drop core.released l)) (sym same);
           issued = ap (λ n. n + 1) g.issued ∙ sym counted;
@@ -104,11 +104,11 @@ module _ (c : Course) (core : CoreState) (gate : GateState) (g : Gates c core ga
 
   -- the gate once the next item was appended and its byte issued
   item_by : (i : Item) (o : Option ℕ) → i.byte ≡ o → (is_some o && is_full gate) ≡ false → issued_by c (core.appended + 1) ≡ issued_by c core.appended ++ cons_option (option_map (λ byte. (number i.item - 1, byte)) o) []
-      → Gates c (after_event (plan_of c) core Append) (with_byte gate (number i.item - 1) o)
+      → Gates c (core_after (plan_of c) core Append) (with_byte gate (number i.item - 1) o)
   item_by i None is room more = still (more ∙ append-nil (issued_by c core.appended))
   item_by i (Some byte) is room more = issued_by_case (number i.item - 1) byte room more (is_withheld gate.from (number i.item - 1)) refl
 
-  pub after_item : (i : Item) (rest : List Item) → IsNext c core.appended i rest → (is_some i.byte && is_full gate) ≡ false → Gates c (after_event (plan_of c) core Append) (with_item gate i)
+  pub after_item : (i : Item) (rest : List Item) → IsNext c core.appended i rest → (is_some i.byte && is_full gate) ≡ false → Gates c (core_after (plan_of c) core Append) (with_item gate i)
   after_item i rest next room = item_by i i.byte refl room next.issued
 
   -- the next byte's step is after those that were issued before
@@ -123,7 +123,7 @@ module _ (c : Course) (core : CoreState) (gate : GateState) (g : Gates c core ga
       ∙ map-append (λ (byte : ℕ × ℕ). byte.0) (issued_by c (core.appended + 1)) front.rest
       ∙ ap (λ l. l ++ steps_of front.rest) (ap steps_of more ∙ map-append (λ (byte : ℕ × ℕ). byte.0) sent ((step, byte) ∷ []))
       ∙ append_snoc (steps_of sent) step (steps_of front.rest) in
-      let le : behind 0 (steps_of sent) ≤ step = behind-le (steps_of sent) step (steps_of front.rest) 0 (end_of c) (subst (λ l. Climbs 0 l (end_of c)) steps_are is.climbs) in
+      let le : passed_after 0 (steps_of sent) ≤ step = passed_after-le (steps_of sent) step (steps_of front.rest) 0 (end_of c) (subst (λ l. Climbs 0 l (end_of c)) steps_are is.climbs) in
       omega (arith, le, g.last)
 
   pub rises_next : (is : IsCourse c) (i : Item) (rest : List Item) → IsNext c core.appended i rest → IfSome i.byte (λ byte. gate.next ≤ number i.item - 1)

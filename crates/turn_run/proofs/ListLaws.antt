@@ -9,7 +9,7 @@ use Rattle.list_laws.proofs.AllLaws.{filter-kept}
 use Rattle.list_laws.specs.Prefix.{IsPrefix}
 use Rattle.list_laws.proofs.PrefixLaws.{IsPrefix-take}
 use Rattle.any_machine.specs.Log.{before_step}
-use Rattle.output_gate.specs.Gate.{Climbs, behind, count_below}
+use Rattle.output_gate.specs.Gate.{Climbs, passed_after, count_below}
 use Rattle.turn_run.specs.Course.{steps_of}
 use Rattle.output_gate.proofs.GateLaws.{Climbs-take, count_below-none}
 
@@ -18,19 +18,19 @@ pub Climbs-prefix : (part whole : List ℕ) (low high : ℕ) → IsPrefix part w
 Climbs-prefix part whole low high is climbs =
     subst (λ l. Climbs low l high) (sym (IsPrefix-take (length part) part whole is (omega arith)) ∙ take-length part) (Climbs-take (length part) whole low high climbs)
 
--- what stands behind some steps is not below the last of them
-pub behind-le : (xs : List ℕ) (x : ℕ) (ys : List ℕ) (low high : ℕ) → Climbs low (xs ++ x ∷ ys) high → behind low xs ≤ x
-behind-le [] x ys low high climbs = climbs.0
-behind-le (y ∷ xs) x ys low high climbs = behind-le xs x ys (y + 1) high climbs.1
+-- a step that comes after others is not below what they have passed
+pub passed_after-le : (xs : List ℕ) (x : ℕ) (ys : List ℕ) (low high : ℕ) → Climbs low (xs ++ x ∷ ys) high → passed_after low xs ≤ x
+passed_after-le [] x ys low high climbs = climbs.0
+passed_after-le (y ∷ xs) x ys low high climbs = passed_after-le xs x ys (y + 1) high climbs.1
 
 -- steps that are all below a bound end below it
-pub behind-below : (xs : List ℕ) (low bound : ℕ) → low ≤ bound → All (λ x. x < bound) xs → behind low xs ≤ bound
-behind-below [] low bound le all = le
-behind-below (x ∷ xs) low bound le all = behind-below xs (x + 1) bound (let lt = All-head (λ x. x < bound) x xs all in omega (arith, lt)) (All-tail (λ x. x < bound) x xs all)
+pub passed_after-below : (xs : List ℕ) (low bound : ℕ) → low ≤ bound → All (λ x. x < bound) xs → passed_after low xs ≤ bound
+passed_after-below [] low bound le all = le
+passed_after-below (x ∷ xs) low bound le all = passed_after-below xs (x + 1) bound (let lt = All-head (λ x. x < bound) x xs all in omega (arith, lt)) (All-tail (λ x. x < bound) x xs all)
 
-pub behind-push : (xs : List ℕ) (x low : ℕ) → behind low (xs ++ x ∷ []) ≡ x + 1
-behind-push [] x low = refl
-behind-push (y ∷ xs) x low = behind-push xs x (y + 1)
+pub passed_after-push : (xs : List ℕ) (x low : ℕ) → passed_after low (xs ++ x ∷ []) ≡ x + 1
+passed_after-push [] x low = refl
+passed_after-push (y ∷ xs) x low = passed_after-push xs x (y + 1)
 
 -- what some steps below a bound are among others
 pub filter-map-steps : (bound : ℕ) (sent : List (ℕ × ℕ)) → filter (λ step. nat_lt step bound) (steps_of sent) ≡ steps_of (before_step bound sent)
@@ -65,17 +65,13 @@ splits bound low high (byte ∷ sent) climbs = split-by bound high byte sent cli
 pub split_IsPrefix : (bound : ℕ) (sent : List (ℕ × ℕ)) → IsSplit bound sent → IsPrefix (before_step bound sent) sent
 split_IsPrefix bound sent split = record { rest = split.rest; joined = split.joined }
 
--- a test that all pass keeps all
-pub filter-all : {X : Type 0} (p : X → Bool) (xs : List X) → All (λ x. p x ≡ true) xs → filter p xs ≡ xs
-filter-all p xs all = filter-kept p xs (recursion_from_All (λ x. p x ≡ true) xs all)
-
 -- the bytes of output that are all below a bound
 abbrev pub AllBelow : ℕ → List (ℕ × ℕ) → Type 0
 AllBelow bound sent = All (λ (byte : ℕ × ℕ). byte.0 < bound) sent
 
 pub before-all : (bound : ℕ) (sent : List (ℕ × ℕ)) → AllBelow bound sent → before_step bound sent ≡ sent
 before-all bound sent all =
-    filter-all (λ byte. nat_lt byte.0 bound) sent (All-weaker (λ (byte : ℕ × ℕ). byte.0 < bound) (λ (byte : ℕ × ℕ). nat_lt byte.0 bound ≡ true) (λ byte lt. lt-ltb byte.0 bound lt) sent all)
+    filter-kept (λ byte. nat_lt byte.0 bound) sent (recursion_from_All (λ (byte : ℕ × ℕ). nat_lt byte.0 bound ≡ true) sent (All-weaker (λ (byte : ℕ × ℕ). byte.0 < bound) (λ (byte : ℕ × ℕ). nat_lt byte.0 bound ≡ true) (λ byte lt. lt-ltb byte.0 bound lt) sent all))
 
 -- where the first so many are below a bound, what is below it are they, and then what is of the others
 pub before-split : (bound k : ℕ) (sent : List (ℕ × ℕ)) → AllBelow bound (take k sent) → before_step bound sent ≡ take k sent ++ before_step bound (drop k sent)

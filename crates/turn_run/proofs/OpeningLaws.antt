@@ -6,7 +6,7 @@ use Rattle.std.proofs.lemmas.List.{get_or-replicate}
 use Rattle.std.proofs.lemmas.Option.{slice_get_within}
 use Rattle.gate_core.specs.Core.{opening}
 use Rattle.gate_core.specs.Hub.{HubState, empty_hub, hub_state, no_verdict}
-use Rattle.gate_core.specs.Follow.{Opens, approvals, hub_of}
+use Rattle.gate_core.specs.Follow.{OpenFollows, approvals, hub_of}
 use Rattle.gate_core.proofs.CoreLaws.{stays_IsSound}
 use Rattle.output_gate.specs.Gate.{empty_gate}
 use Rattle.any_machine.specs.Recording.{Recording}
@@ -19,7 +19,7 @@ use Rattle.turn_run.specs.Replicas.{Follows, IsFollower}
 use Rattle.turn_run.specs.Sources.{StillToCome}
 use Rattle.turn_run.proofs.CourseLaws.{is_plan}
 
-opens : Opens
+opens : OpenFollows
 opens plan = ap (λ l. hub_state plan.cap l 0 (replicate (length plan.limits) 0) (replicate (length plan.limits) no_verdict) false) (sym (drop-nil (0 - plan.cap)))
 
 approvals-none : (n : ℕ) → approvals (replicate n no_verdict) ≡ replicate n 0

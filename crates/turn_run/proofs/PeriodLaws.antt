@@ -9,7 +9,7 @@ use Rattle.std.proofs.lemmas.List.Elements.{All-contains, All-push}
 use Rattle.after_edge.specs.Sink.{Telling, Writes}
 use Rattle.after_edge.proofs.SinkLaws.{Adds-then, Writes-nothing, Writes-same, Writes-then}
 use Rattle.after_edge.proofs.FaultLaws.{Rose-later}
-use Rattle.gate_core.specs.Core.{CoreState, Append, Break, Close, TakeNext, after_event, approves}
+use Rattle.gate_core.specs.Core.{CoreState, Append, Break, Close, TakeNext, core_after, approves}
 use Rattle.gate_core.specs.Hub.{HubState}
 use Rattle.gate_core.proofs.CoreLaws.{event_IsSound, set_grows}
 use Rattle.output_gate.specs.Gate.{GateState}
@@ -28,7 +28,7 @@ use Rattle.turn_run.specs.Endings.{end_in}
 use Rattle.turn_run.specs.Gates.{Gates}
 use Rattle.turn_run.specs.Closings.{IsReadOut}
 use Rattle.turn_run.specs.Periods.{HaveMoved, IsIdle, Moves}
-use Rattle.turn_run.specs.Replicas.{Follows, after_turn}
+use Rattle.turn_run.specs.Replicas.{Follows, core_after_read}
 use Rattle.turn_run.specs.Runs.{AllRead, AllTaken, HasBroken, HasCome, HasCrashed, HasReleased, IsAt, IsBesides, Lessens, LessensRead, Reads, Records, bytes_between, turns_left, unread, with_released}
 use Rattle.turn_run.specs.Sources.{StillToCome, items_left}
 use Rattle.turn_run.proofs.CourseLaws.{is_plan}
@@ -74,7 +74,7 @@ module _ {M F : Type 0} (r : Recording M) (f : Following F) (c : Course) where
 
     pub crashes : (core : CoreState) (before after : Parts M F) (old new : S) → IsAt r f c core before → HasBroken r f c core after sink old new → HasCrashed r f c core.released after sink old new
     crashes core before after old new at has = record {
-      next = after_event (plan_of c) core (Break has.count has.done);
+      next = core_after (plan_of c) core (Break has.count has.done);
       broken = has.broken;
       failed = record { before = core; sound = at.follows.sound; piece = has.count; done = has.done; may = has.may; appended = refl; out = refl };
       more = omega arith;
@@ -112,8 +112,8 @@ module _ {M F : Type 0} (r : Recording M) (f : Following F) (c : Course) where
 
   module _ (core : CoreState) (before after : Parts M F) (at : IsAt r f c core before) where
     pub recorded : {S : Type 0} (sink : Telling S) (out : S) (result : Recorded) → Records r f c core result before after → HasCome r f c core.released after sink out out
-    recorded sink out Appended has = comes sink core.released after (after_event (plan_of c) core Append) out has.at refl
-    recorded sink out Closed has = comes sink core.released after (after_event (plan_of c) core Close) out has.at refl
+    recorded sink out Appended has = comes sink core.released after (core_after (plan_of c) core Append) out has.at refl
+    recorded sink out Closed has = comes sink core.released after (core_after (plan_of c) core Close) out has.at refl
     recorded sink out Waits has = comes sink core.released after core out has.at refl
     recorded sink out Over has = comes sink core.released after core out (subst (IsAt r f c core) (sym has.1) at) refl
 
@@ -148,15 +148,15 @@ module _ {M F : Type 0} (r : Recording M) (f : Following F) (c : Course) where
     -- A TURN OF A FOLLOWER
 
     -- the gate stands as well where a reader has posted again
-    gates_read : (reader : ℕ) → reader < length c.limits → slice_index core.taken reader < core.appended → Gates c (after_turn c core reader) before.gate
+    gates_read : (reader : ℕ) → reader < length c.limits → slice_index core.taken reader < core.appended → Gates c (core_after_read c core reader) before.gate
     gates_read reader there less =
         let g = at.gates in
         let is = is_plan c at.follows.course in
         let took = event_IsSound (plan_of c) core (TakeNext reader) is at.follows.sound (there, less) in
         let one = took.readers reader there in
-        let low : slice_index core.approved reader ≤ approves (plan_of c) (after_event (plan_of c) core (TakeNext reader)) reader = omega (arith, one.limit, one.seen) in
-        let grows = least-rises core.approved (after_turn c core reader).approved MOST_STEPS c.required
-        (λ place lt. set_grows core.approved reader (approves (plan_of c) (after_event (plan_of c) core (TakeNext reader)) reader) low (slice_index c.required place)) in
+        let low : slice_index core.approved reader ≤ approves (plan_of c) (core_after (plan_of c) core (TakeNext reader)) reader = omega (arith, one.limit, one.seen) in
+        let grows = least-rises core.approved (core_after_read c core reader).approved MOST_STEPS c.required
+        (λ place lt. set_grows core.approved reader (approves (plan_of c) (core_after (plan_of c) core (TakeNext reader)) reader) low (slice_index c.required place)) in
         record {
           steps = g.steps;
           bytes = g.bytes;
@@ -185,7 +185,7 @@ module _ {M F : Type 0} (r : Recording M) (f : Following F) (c : Course) where
       none_read same = beside core refl refl (subst (λ h. Follows f c core h after.followers.items) (sym same.0) (subst (Follows f c core before.hub) (sym same.1) at.follows)) at.gates
 
       pub read_comes : {S : Type 0} (sink : Telling S) (out : S) (reader : ℕ) → reader < length c.limits → (result : Turn) → Reads f c core reader result before after → LessensRead result before after → HasCome r f c core.released after sink out out
-      read_comes sink out reader there turn.Took has less = comes sink core.released after (after_turn c core reader) out (beside (after_turn c core reader) refl refl has.1 (gates_read reader there has.0)) refl
+      read_comes sink out reader there turn.Took has less = comes sink core.released after (core_after_read c core reader) out (beside (core_after_read c core reader) refl refl has.1 (gates_read reader there has.0)) refl
       read_comes sink out reader there turn.Empty has less = comes sink core.released after core out (none_read less) refl
       read_comes sink out reader there turn.Closed has less = comes sink core.released after core out (none_read less) refl
 

@@ -10,20 +10,20 @@ use Rattle.circular_buffer.proofs.Places.{slice_get-set_same, slice_get-set_othe
 use Rattle.list_laws.proofs.PrefixLaws.{take-next}
 use Rattle.gate_core.specs.declared.take.Take.TheVariants.{Got}
 use Rattle.gate_core.specs.declared.verdict.Verdict.{Verdict}
-use Rattle.gate_core.specs.Core.{CoreState, TakeNext, Post, after_event, reached, IsSound}
-use Rattle.gate_core.specs.Hub.{HubState, Gives, no_verdict, verdict_at, with_take, with_verdict}
+use Rattle.gate_core.specs.Core.{CoreState, TakeNext, Post, core_after, reached, IsSound}
+use Rattle.gate_core.specs.Hub.{HubState, Gets, no_verdict, verdict_at, with_take, with_verdict}
 use Rattle.gate_core.specs.Follow.{Does, approvals, hub_of}
 use Rattle.gate_core.proofs.CoreLaws.{event_IsSound}
 use Rattle.gate_core.proofs.FollowLaws.{takes, posts}
 use Rattle.turn_run.specs.Following.{Following}
 use Rattle.turn_run.specs.Course.{Course, Agrees, log_of, plan_of}
-use Rattle.turn_run.specs.Replicas.{Follows, HasTaken, IsFollower, Reads, after_turn}
+use Rattle.turn_run.specs.Replicas.{Follows, HasTaken, IsFollower, IsReaderOf, core_after_read}
 use Rattle.turn_run.specs.Runs.{unread}
 use Rattle.turn_run.proofs.CourseLaws.{is_plan, length_log}
 
 module _ {F : Type 0} (f : Following F) (c : Course) (core : CoreState) (hub : HubState) (followers : List F) (fs : Follows f c core hub followers) where
   -- a follower is the hub's reader of its number
-  pub is_reader : (reader : ℕ) (follower : F) → slice_get followers reader ≡ Some follower → Reads f hub reader follower (take (slice_index core.taken reader) (log_of c))
+  pub is_reader : (reader : ℕ) (follower : F) → slice_get followers reader ≡ Some follower → IsReaderOf f hub reader follower (take (slice_index core.taken reader) (log_of c))
   is_reader reader follower at = record {
     there = omega (arith, slice_get_within followers reader follower at, fs.count, fs.sound.taken, ap (λ (h : HubState). length h.taken) fs.stands);
     taken = (fs.each reader follower at).taken;
@@ -38,7 +38,7 @@ module _ {F : Type 0} (f : Following F) (c : Course) (core : CoreState) (hub : H
     there = omega (arith, slice_get_within followers reader old at, fs.count)
 
     law : Does (plan_of c) core (TakeNext reader) hub.verdicts (with_take (hub_of (plan_of c) core hub.verdicts) reader) × (slice_get (log_of c) count ≡ Some t.item)
-    law = takes (plan_of c) core hub.verdicts reader t.item fs.sound there (subst (λ h. Gives h reader (Got t.item)) fs.stands t.given)
+    law = takes (plan_of c) core hub.verdicts reader t.item fs.sound there (subst (λ h. Gets h reader (Got t.item)) fs.stands t.given)
 
     pub took_less : slice_index core.taken reader < core.appended
     took_less = law.0.may.1
@@ -47,7 +47,7 @@ module _ {F : Type 0} (f : Following F) (c : Course) (core : CoreState) (hub : H
     longer = take-next count (log_of c) t.item law.1
 
     core1 : CoreState
-    core1 = after_event (plan_of c) core (TakeNext reader)
+    core1 = core_after (plan_of c) core (TakeNext reader)
 
     number : slice_index (slice_set core.taken reader (count + 1)) reader ≡ count + 1
     number = get_or-set_same core.taken reader (count + 1) 0 (omega (arith, there, fs.sound.taken))
@@ -67,15 +67,15 @@ module _ {F : Type 0} (f : Following F) (c : Course) (core : CoreState) (hub : H
     approves_is : (f.verdict new (take count (log_of c) ++ t.item ∷ [])).approved ≡ min (slice_index c.limits reader) (reached (plan_of c) (slice_index (slice_set core.taken reader (count + 1)) reader))
     approves_is = ap (λ (v : Verdict). v.approved) verdict_is ∙ agrees_now.approved ∙ ap (λ n. min (slice_index c.limits reader) (reached (plan_of c) n)) (sym number)
 
-    sound1 : IsSound (plan_of c) (after_event (plan_of c) core (TakeNext reader))
+    sound1 : IsSound (plan_of c) (core_after (plan_of c) core (TakeNext reader))
     sound1 = event_IsSound (plan_of c) core (TakeNext reader) (is_plan c fs.course) fs.sound law.0.may
 
-    posted_law : Does (plan_of c) (after_event (plan_of c) core (TakeNext reader)) (Post reader) (slice_set hub.verdicts reader (f.verdict new (take count (log_of c) ++ t.item ∷ [])))
-        (with_verdict (hub_of (plan_of c) (after_event (plan_of c) core (TakeNext reader)) hub.verdicts) reader (f.verdict new (take count (log_of c) ++ t.item ∷ [])))
-        × (approvals (slice_set hub.verdicts reader (f.verdict new (take count (log_of c) ++ t.item ∷ []))) ≡ (after_event (plan_of c) (after_event (plan_of c) core (TakeNext reader)) (Post reader)).approved)
-    posted_law = posts (plan_of c) (after_event (plan_of c) core (TakeNext reader)) hub.verdicts reader (f.verdict new (take count (log_of c) ++ t.item ∷ [])) there fs.approved approves_is
+    posted_law : Does (plan_of c) (core_after (plan_of c) core (TakeNext reader)) (Post reader) (slice_set hub.verdicts reader (f.verdict new (take count (log_of c) ++ t.item ∷ [])))
+        (with_verdict (hub_of (plan_of c) (core_after (plan_of c) core (TakeNext reader)) hub.verdicts) reader (f.verdict new (take count (log_of c) ++ t.item ∷ [])))
+        × (approvals (slice_set hub.verdicts reader (f.verdict new (take count (log_of c) ++ t.item ∷ []))) ≡ (core_after (plan_of c) (core_after (plan_of c) core (TakeNext reader)) (Post reader)).approved)
+    posted_law = posts (plan_of c) (core_after (plan_of c) core (TakeNext reader)) hub.verdicts reader (f.verdict new (take count (log_of c) ++ t.item ∷ [])) there fs.approved approves_is
 
-    hub_now : hub' ≡ hub_of (plan_of c) (after_turn c core reader) (slice_set hub.verdicts reader (f.verdict new (take count (log_of c) ++ t.item ∷ [])))
+    hub_now : hub' ≡ hub_of (plan_of c) (core_after_read c core reader) (slice_set hub.verdicts reader (f.verdict new (take count (log_of c) ++ t.item ∷ [])))
     hub_now =
         t.hub_is
         ∙ ap (λ h. with_verdict (with_take h reader) reader (f.verdict new (take count (log_of c) ++ t.item ∷ []))) fs.stands
@@ -123,12 +123,12 @@ module _ {F : Type 0} (f : Following F) (c : Course) (core : CoreState) (hub : H
         ∙ fs.posted other follower before
         ∙ ap (λ n. f.verdict follower (take n (log_of c))) (sym (others other differs)))
 
-    pub follows_now : Follows f c (after_turn c core reader) hub' (slice_set followers reader new)
+    pub follows_now : Follows f c (core_after_read c core reader) hub' (slice_set followers reader new)
     follows_now = record {
       course = fs.course;
-      stands = hub_now ∙ ap (hub_of (plan_of c) (after_turn c core reader)) (sym verdicts_now);
+      stands = hub_now ∙ ap (hub_of (plan_of c) (core_after_read c core reader)) (sym verdicts_now);
       approved = ap approvals verdicts_now ∙ posted_law.1;
-      sound = event_IsSound (plan_of c) (after_event (plan_of c) core (TakeNext reader)) (Post reader) (is_plan c fs.course) sound1 posted_law.0.may;
+      sound = event_IsSound (plan_of c) (core_after (plan_of c) core (TakeNext reader)) (Post reader) (is_plan c fs.course) sound1 posted_law.0.may;
       count = length-set followers reader new ∙ fs.count;
       each = each_now;
       posted = posted_now;

@@ -11,7 +11,7 @@ use Rattle.turn_run.specs.declared.reading.Turn.{Turn}
 use Rattle.turn_run.specs.declared.reading.Turn.TheVariants.{Took, Empty, Closed}
 use Rattle.turn_run.specs.Following.{Following}
 use Rattle.turn_run.specs.Course.{Course, log_of}
-use Rattle.turn_run.specs.Replicas.{Follows, Turned, after_turn}
+use Rattle.turn_run.specs.Replicas.{Follows, Turned, core_after_read}
 use Rattle.turn_run.specs.Runs.{LessensRead, Reads, IsFollowed, unread}
 use Rattle.turn_run.proofs.ReadLaws.{follows_now, took_less, unread-took}
 
@@ -21,8 +21,8 @@ module _ {M F : Type 0} (f : Following F) (c : Course) (core : CoreState) (befor
       → Reads f c core reader turn before after
   reads_of after Took t hub_is followers_are = (
     took_less f c core before.hub before.followers.items fs reader old new at hub t,
-    subst (Follows f c (after_turn c core reader) after.hub) (sym followers_are)
-        (subst (λ h. Follows f c (after_turn c core reader) h (slice_set before.followers.items reader new)) (sym hub_is) (follows_now f c core before.hub before.followers.items fs reader old new at hub t)),
+    subst (Follows f c (core_after_read c core reader) after.hub) (sym followers_are)
+        (subst (λ h. Follows f c (core_after_read c core reader) h (slice_set before.followers.items reader new)) (sym hub_is) (follows_now f c core before.hub before.followers.items fs reader old new at hub t)),
   )
   reads_of after Empty t hub_is followers_are = (ap (λ (h : HubState). h.closed) (sym fs.stands) ∙ t.0, omega (arith, t.1.all, ap (λ (h : HubState). slice_index h.taken reader) fs.stands, ap (λ (h : HubState). h.appended) fs.stands))
   reads_of after Closed t hub_is followers_are = (ap (λ (h : HubState). h.closed) (sym fs.stands) ∙ t.0, omega (arith, t.1.all, ap (λ (h : HubState). slice_index h.taken reader) fs.stands, ap (λ (h : HubState). h.appended) fs.stands))

@@ -7,18 +7,19 @@ use Rattle.std.proofs.Math.Seq.{drop-append_seam}
 use Rattle.std.proofs.lemmas.List.{length-map, drop-map, drop-drop, drop-take, length-drop, take_all, take-take, length-take, take-map, get_or-map, get_or-drop, drop_all, length-take-le, get_or-take}
 use Rattle.std.proofs.lemmas.Bool.{cases_lt}
 use Rattle.std.proofs.lemmas.List.Prefix.{front_reads}
-use Rattle.std.proofs.lemmas.List.Elements.{All-weaker, All-filter, All-drop, All-get_or, All-from_get_or, All-map, filter_passes}
+use Rattle.std.proofs.lemmas.List.Elements.{All-weaker, All-filter, All-drop, All-get_or, All-from_get_or, All-map, filter_passes, recursion_from_All}
 use Rattle.list_laws.specs.Prefix.{IsPrefix}
+use Rattle.list_laws.proofs.AllLaws.{filter-kept}
 use Rattle.list_laws.proofs.PrefixLaws.{IsPrefix-trans, IsPrefix-map, IsPrefix-take, IsPrefix-length}
 use Rattle.any_machine.specs.Log.{before_step}
 use Rattle.gate_core.specs.Core.{CoreState, Release, reached, IsSound, IsReleasable}
 use Rattle.gate_core.proofs.CoreLaws.{event_IsSound}
-use Rattle.output_gate.specs.Gate.{GateState, Climbs, behind, count_below, least_from, with_release, with_withheld}
+use Rattle.output_gate.specs.Gate.{GateState, Climbs, passed_after, count_below, first_withheld, with_release, with_withheld}
 use Rattle.output_gate.proofs.GateLaws.{Climbs-take, Climbs-drop, filter-climbs, count_below-within, count_below-before}
 use Rattle.turn_run.specs.Course.{Course, IsCourse, steps_of, bytes_in, output_of, stop_of, plan_of, end_of}
-use Rattle.turn_run.specs.Gates.{Gates, IsLimit, IsWithheldFrom, issued_by, kept, least_approved, still_waiting}
+use Rattle.turn_run.specs.Gates.{Gates, IsLimit, IsWithheldFrom, issued_by, not_withheld, least_approved, still_waiting}
 use Rattle.turn_run.specs.Runs.{with_released, bytes_between}
-use Rattle.turn_run.proofs.ListLaws.{AllBelow, Climbs-prefix, behind-below, splits, split_IsPrefix, count-before, before-both, before-drop, before-long, filter-map-steps, filter-all}
+use Rattle.turn_run.proofs.ListLaws.{AllBelow, Climbs-prefix, passed_after-below, splits, split_IsPrefix, count-before, before-both, before-drop, before-long, filter-map-steps}
 use Rattle.turn_run.proofs.LeastLaws.{least-each, least-above}
 use Rattle.turn_run.proofs.CourseLaws.{is_plan, issued_IsPrefix, length_log}
 use Rattle.turn_run.proofs.IssueLaws.{issued_under}
@@ -56,7 +57,7 @@ module _ (c : Course) (is : IsCourse c) (from : Option ℕ) (a : ℕ) where
   issued_climbs =
       Climbs-prefix (steps_of (issued_by c a)) (steps_of (output_of c)) 0 (end_of c) (IsPrefix-map (λ (byte : ℕ × ℕ). byte.0) (issued_IsPrefix c is a)) is.climbs
 
-  kept_by : (o : Option ℕ) → Climbs 0 (steps_of (kept o (issued_by c a))) (end_of c) × IsPrefix (kept o (issued_by c a)) (output_of c)
+  kept_by : (o : Option ℕ) → Climbs 0 (steps_of (not_withheld o (issued_by c a))) (end_of c) × IsPrefix (not_withheld o (issued_by c a)) (output_of c)
   kept_by None = (issued_climbs, issued_IsPrefix c is a)
   kept_by (Some step) =
       let split = splits step 0 (end_of c) (issued_by c a) issued_climbs in (
@@ -65,20 +66,20 @@ module _ (c : Course) (is : IsCourse c) (from : Option ℕ) (a : ℕ) where
         IsPrefix-trans (split_IsPrefix step (issued_by c a) split) (issued_IsPrefix c is a),
       )
 
-  pub kept_IsPrefix : IsPrefix (kept from (issued_by c a)) (output_of c)
+  pub kept_IsPrefix : IsPrefix (not_withheld from (issued_by c a)) (output_of c)
   kept_IsPrefix = (kept_by from).1
 
-  kept_climbs : Climbs 0 (steps_of (kept from (issued_by c a))) (end_of c)
+  kept_climbs : Climbs 0 (steps_of (not_withheld from (issued_by c a))) (end_of c)
   kept_climbs = (kept_by from).0
 
-  kept_short_by : (o : Option ℕ) → length (kept o (issued_by c a)) ≤ length (issued_by c a)
+  kept_short_by : (o : Option ℕ) → length (not_withheld o (issued_by c a)) ≤ length (issued_by c a)
   kept_short_by None = omega arith
   kept_short_by (Some step) = IsPrefix-length (before_step step (issued_by c a)) (issued_by c a) (split_IsPrefix step (issued_by c a) (splits step 0 (end_of c) (issued_by c a) issued_climbs))
 
-  kept_short : length (kept from (issued_by c a)) ≤ length (issued_by c a)
+  kept_short : length (not_withheld from (issued_by c a)) ≤ length (issued_by c a)
   kept_short = kept_short_by from
 
-  kept_under_by : (low : ℕ) (o : Option ℕ) → AllBelow low (issued_by c a) → AllBelow low (kept o (issued_by c a))
+  kept_under_by : (low : ℕ) (o : Option ℕ) → AllBelow low (issued_by c a) → AllBelow low (not_withheld o (issued_by c a))
   kept_under_by low None all = all
   kept_under_by low (Some step) all = All-filter (λ (byte : ℕ × ℕ). nat_lt byte.0 step) (λ (byte : ℕ × ℕ). byte.0 < low) (issued_by c a) all
 
@@ -89,7 +90,7 @@ module _ (c : Course) (is : IsCourse c) (core : CoreState) (sound : IsSound (pla
 
   below_limit : (i : ℕ) → i < core.released → (place : ℕ) → place < length c.required → slice_index (steps_of (output_of c)) i < slice_index c.limits (slice_index c.required place)
   below_limit i less place there =
-      let approved = (sound.shown i less).approved (slice_index c.required place) (place, there, refl) in
+      let approved = (sound.may_go i less).approved (slice_index c.required place) (place, there, refl) in
       let reader : slice_index c.required place < length c.limits = All-get_or (λ reader. reader < length c.limits) c.required place 0 there is.required in
       let limit = (sound.readers (slice_index c.required place) reader).limit in
       omega (arith, approved, limit)
@@ -116,18 +117,18 @@ module _ (c : Course) (is : IsCourse c) (core : CoreState) (sound : IsSound (pla
 
 module _ (c : Course) (is : IsCourse c) (core : CoreState) (gate : GateState) (g : Gates c core gate) where
   abbrev all_kept : List (ℕ × ℕ)
-  all_kept = kept gate.from (issued_by c core.appended)
+  all_kept = not_withheld gate.from (issued_by c core.appended)
 
   begins : IsPrefix all_kept (output_of c)
   begins = kept_IsPrefix c is gate.from core.appended
 
-  waiting_climbs : Climbs (behind 0 (take core.released (steps_of all_kept))) gate.steps (end_of c)
+  waiting_climbs : Climbs (passed_after 0 (take core.released (steps_of all_kept))) gate.steps (end_of c)
   waiting_climbs =
-      subst (λ l. Climbs (behind 0 (take core.released (steps_of all_kept))) l (end_of c)) (drop-map (λ (byte : ℕ × ℕ). byte.0) core.released all_kept ∙ sym g.steps)
+      subst (λ l. Climbs (passed_after 0 (take core.released (steps_of all_kept))) l (end_of c)) (drop-map (λ (byte : ℕ × ℕ). byte.0) core.released all_kept ∙ sym g.steps)
       (Climbs-drop core.released (steps_of all_kept) 0 (end_of c) (kept_climbs c is gate.from core.appended))
 
-  still_climbs : Climbs (behind 0 (take core.released (steps_of all_kept))) (steps_of (still_waiting c core gate.from)) (end_of c)
-  still_climbs = subst (λ l. Climbs (behind 0 (take core.released (steps_of all_kept))) l (end_of c)) g.steps waiting_climbs
+  still_climbs : Climbs (passed_after 0 (take core.released (steps_of all_kept))) (steps_of (still_waiting c core gate.from)) (end_of c)
+  still_climbs = subst (λ l. Climbs (passed_after 0 (take core.released (steps_of all_kept))) l (end_of c)) g.steps waiting_climbs
 
   module _ (below : ℕ) (least : below ≡ least_approved core.approved c.required) where
     abbrev count : ℕ
@@ -139,10 +140,10 @@ module _ (c : Course) (is : IsCourse c) (core : CoreState) (gate : GateState) (g
     pub within_issued : core.released + count_below below gate.steps ≤ length (issued_by c core.appended)
     within_issued = omega (arith, room, kept_short c is gate.from core.appended)
 
-    passed_below : behind gate.passed (take count gate.steps) ≤ below
+    passed_below : passed_after gate.passed (take count gate.steps) ≤ below
     passed_below =
-        behind-below (take count gate.steps) gate.passed below (omega (arith, g.passed, least))
-        (subst (All (λ step. step < below)) (filter-climbs gate.steps (behind 0 (take core.released (steps_of all_kept))) (end_of c) below waiting_climbs)
+        passed_after-below (take count gate.steps) gate.passed below (omega (arith, g.passed, least))
+        (subst (All (λ step. step < below)) (filter-climbs gate.steps (passed_after 0 (take core.released (steps_of all_kept))) (end_of c) below waiting_climbs)
         (All-weaker (λ step. nat_lt step below ≡ true) (λ step. step < below) (λ step lt. ltb-true step below lt) (filter (λ step. nat_lt step below) gate.steps) (filter_passes (λ step. nat_lt step below) gate.steps)))
 
     pub after_release : Gates c (with_released core (core.released + count_below below gate.steps)) (with_release gate (count_below below gate.steps))
@@ -191,10 +192,10 @@ module _ (c : Course) (is : IsCourse c) (core : CoreState) (gate : GateState) (g
       some = some;
       piece = omega (arith, count_below-within below gate.steps, g.few);
       there = omega (arith, room, IsPrefix-length all_kept (output_of c) begins, length-map (output_of c) (λ (byte : ℕ × ℕ). byte.0));
-      shown = λ byte from to.
+      may_go = λ byte from to.
           let here = step_is byte from to in
           let place : byte - core.released < count_below below gate.steps = omega (arith, from, to) in
-          let low = count_below-before gate.steps (behind 0 (take core.released (steps_of all_kept))) (end_of c) below (byte - core.released) waiting_climbs place in
+          let low = count_below-before gate.steps (passed_after 0 (take core.released (steps_of all_kept))) (end_of c) below (byte - core.released) waiting_climbs place in
           let reach = All-get_or (λ step. step < reached (plan_of c) core.appended) gate.steps (byte - core.released) 0 (omega (arith, place, count_below-within below gate.steps)) (all_reached (few sound)) in
           record {
             reached = omega (arith, here, reach);
@@ -216,14 +217,14 @@ module _ (c : Course) (is : IsCourse c) (core : CoreState) (gate : GateState) (g
     pub none_waits : core.appended ≤ length c.items → reached (plan_of c) core.appended ≤ below → drop (count_below below gate.steps) gate.steps ≡ []
     none_waits le all =
         let every : filter (λ step. nat_lt step below) gate.steps ≡ gate.steps =
-        filter-all (λ step. nat_lt step below) gate.steps (All-weaker (λ step. step < reached (plan_of c) core.appended) (λ step. nat_lt step below ≡ true) (λ step less. lt-ltb step below (omega (arith, less, all))) gate.steps (all_reached le)) in
+        filter-kept (λ step. nat_lt step below) gate.steps (recursion_from_All (λ step. nat_lt step below ≡ true) gate.steps (All-weaker (λ step. step < reached (plan_of c) core.appended) (λ step. nat_lt step below ≡ true) (λ step less. lt-ltb step below (omega (arith, less, all))) gate.steps (all_reached le))) in
         let whole : length (filter (λ step. nat_lt step below) gate.steps) ≡ length gate.steps = ap length every in
         drop_all (count_below below gate.steps) gate.steps (omega (arith, whole))
 
     -- after a release nothing is below the bound
     pub none_below : count_below below (drop (count_below below gate.steps) gate.steps) ≡ 0
     none_below =
-        let low = behind 0 (take core.released (steps_of all_kept)) in
+        let low = passed_after 0 (take core.released (steps_of all_kept)) in
         let sent = still_waiting c core gate.from in
         let rest : drop (count_below below gate.steps) gate.steps ≡ steps_of (drop (count_below below (steps_of sent)) sent) =
         (λ i. drop (count_below below (g.steps i)) (g.steps i)) ∙ drop-map (λ (byte : ℕ × ℕ). byte.0) (count_below below (steps_of sent)) sent in
@@ -234,27 +235,27 @@ module _ (c : Course) (is : IsCourse c) (core : CoreState) (gate : GateState) (g
     kept_first : AllBelow from (take core.released all_kept)
     kept_first = subst (AllBelow from) (sym (IsPrefix-take core.released all_kept (output_of c) begins g.there)) (released_limit c is core sound from limit)
 
-    kept_both : before_step from all_kept ≡ kept (Some (least_from gate.from from)) (issued_by c core.appended)
+    kept_both : before_step from all_kept ≡ not_withheld (Some (first_withheld gate.from from)) (issued_by c core.appended)
     kept_both = by gate.from
       where
-        by : (o : Option ℕ) → before_step from (kept o (issued_by c core.appended)) ≡ kept (Some (least_from o from)) (issued_by c core.appended)
+        by : (o : Option ℕ) → before_step from (not_withheld o (issued_by c core.appended)) ≡ not_withheld (Some (first_withheld o from)) (issued_by c core.appended)
         by None = refl
         by (Some first) = before-both first from (issued_by c core.appended)
 
-    limit_both : IsWithheldFrom c (Some (least_from gate.from from))
+    limit_both : IsWithheldFrom c (Some (first_withheld gate.from from))
     limit_both = by gate.from g.withheld
       where
-        by : (o : Option ℕ) → IsWithheldFrom c o → IsWithheldFrom c (Some (least_from o from))
+        by : (o : Option ℕ) → IsWithheldFrom c o → IsWithheldFrom c (Some (first_withheld o from))
         by None none = limit
         by (Some first) before = elim (cases_lt first from) [
           | inl less ↦ record { place = before.place; there = before.there; is = omega (arith, less, before.is) }
           | inr le ↦ record { place = limit.place; there = limit.there; is = omega (arith, le, limit.is) }
         ]
 
-    still_is : take (count_below from gate.steps) (still_waiting c core gate.from) ≡ still_waiting c core (Some (least_from gate.from from))
+    still_is : take (count_below from gate.steps) (still_waiting c core gate.from) ≡ still_waiting c core (Some (first_withheld gate.from from))
     still_is =
         ap (λ l. take (count_below from l) (still_waiting c core gate.from)) g.steps
-        ∙ before-take from (behind 0 (take core.released (steps_of all_kept))) (end_of c) (still_waiting c core gate.from) still_climbs
+        ∙ before-take from (passed_after 0 (take core.released (steps_of all_kept))) (end_of c) (still_waiting c core gate.from) still_climbs
         ∙ before-drop from core.released all_kept g.there kept_first
         ∙ ap (drop core.released) kept_both
 

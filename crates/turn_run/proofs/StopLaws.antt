@@ -12,7 +12,7 @@ use Rattle.turn_run.specs.Closings.{IsStopped}
 use Rattle.turn_run.specs.Endings.{end_in}
 use Rattle.turn_run.specs.Gates.{issued_by}
 use Rattle.turn_run.specs.Periods.{HasRead, HasReadAll, HasReadSome, HasReadUp}
-use Rattle.turn_run.specs.Replicas.{Follows, after_turn}
+use Rattle.turn_run.specs.Replicas.{Follows, core_after_read}
 use Rattle.turn_run.specs.Runs.{IsBesides, IsBroken, IsFollowed}
 use Rattle.turn_run.proofs.EndLaws.{within_released}
 
@@ -26,18 +26,18 @@ besides-then a b c first second = record {
 }
 
 -- a follower that has taken all of the log stays where another one takes a record
-others_stay : (c : Course) (now : CoreState) (reader : ℕ) → slice_index now.taken reader < now.appended → (other : ℕ) → slice_index now.taken other ≡ now.appended → slice_index (after_turn c now reader).taken other ≡ now.appended
+others_stay : (c : Course) (now : CoreState) (reader : ℕ) → slice_index now.taken reader < now.appended → (other : ℕ) → slice_index now.taken other ≡ now.appended → slice_index (core_after_read c now reader).taken other ≡ now.appended
 others_stay c now reader less other all = by (nat_eq other reader) refl
   where
-    by : (b : Bool) → nat_eq other reader ≡ b → slice_index (after_turn c now reader).taken other ≡ now.appended
+    by : (b : Bool) → nat_eq other reader ≡ b → slice_index (core_after_read c now reader).taken other ≡ now.appended
     by true is = absurd (omega (arith, less, all, ap (slice_index now.taken) (eqb-true other reader is)))
     by false is = get_or-set_other now.taken reader other (slice_index now.taken reader + 1) 0 (eqb-false other reader is) ∙ all
 
 module _ {M F : Type 0} (f : Following F) (c : Course) (core : CoreState) where
   -- one record more
-  pub read_on : (mid after : Parts M F) (reader : ℕ) (has : HasRead f c core mid) → (slice_index has.next.taken reader < has.next.appended) × IsFollowed f c (after_turn c has.next reader) after → HasRead f c core after
+  pub read_on : (mid after : Parts M F) (reader : ℕ) (has : HasRead f c core mid) → (slice_index has.next.taken reader < has.next.appended) × IsFollowed f c (core_after_read c has.next reader) after → HasRead f c core after
   read_on mid after reader has took = record {
-    next = after_turn c has.next reader;
+    next = core_after_read c has.next reader;
     follows = took.1;
     same = record { appended = has.same.appended; closed = has.same.closed; failed = has.same.failed; released = has.same.released };
     others = λ other all. others_stay c has.next reader took.0 other (has.others other all);

@@ -130,14 +130,14 @@ module _ {F : Type 0} (f : Following F) where
 
   -- The closing of a run that went to its end: its log has all items, and the gate has released all bytes that are let out,
   -- and holds none any more.
-  pub record ClosesWhole (c : Course) (closing : Closing F) : Type 0 where
+  pub record IsWholeRun (c : Course) (closing : Closing F) : Type 0 where
     pub closes : Closes c c.items closing
     pub released : released_of closing ≡ length (released_bytes c)
     pub none : waiting_of closing ≡ []
 
   -- The closing of a run that a failed put has ended: its log has the first so many items, and the gate counts no more
   -- bytes as released than went out, which are no more than are let out of these items.
-  pub record ClosesFront (c : Course) (count put : ℕ) (closing : Closing F) : Type 0 where
+  pub record IsCutRun (c : Course) (count put : ℕ) (closing : Closing F) : Type 0 where
     pub within : count ≤ length c.items
     pub closes : Closes c (take count c.items) closing
     pub released : released_of closing ≤ put

@@ -8,7 +8,7 @@ use Rattle.any_machine.specs.Log.{before_step, bytes_of}
 use Rattle.gate_core.specs.Core.{CoreState}
 use Rattle.gate_core.specs.Follow.{approvals}
 use Rattle.gate_core.specs.Hub.{HubState, approved_at, full_of, verdict_at, with_append}
-use Rattle.output_gate.specs.Gate.{GateState, behind, count_below, is_full, with_issue, with_release, with_withheld}
+use Rattle.output_gate.specs.Gate.{GateState, passed_after, count_below, is_full, with_issue, with_release, with_withheld}
 use Rattle.turn_run.specs.Course.{Course, least_limit, steps_of, bytes_in, stop_of}
 
 -- the bytes of the records that were appended, each with its step
@@ -20,13 +20,13 @@ abbrev pub released_by : Course → ℕ → List ℕ
 released_by c count = bytes_in (before_step (stop_of c) (issued_by c count))
 
 -- those of them that are not withheld
-abbrev pub kept : Option ℕ → List (ℕ × ℕ) → List (ℕ × ℕ)
-kept None sent = sent
-kept (Some from) sent = before_step from sent
+abbrev pub not_withheld : Option ℕ → List (ℕ × ℕ) → List (ℕ × ℕ)
+not_withheld None sent = sent
+not_withheld (Some from) sent = before_step from sent
 
 -- those of them that are not released either
 abbrev pub still_waiting : Course → CoreState → Option ℕ → List (ℕ × ℕ)
-still_waiting c core from = drop core.released (kept from (issued_by c core.appended))
+still_waiting c core from = drop core.released (not_withheld from (issued_by c core.appended))
 
 -- a step is the limit of a replica that has to approve
 pub record IsLimit (c : Course) (step : ℕ) : Type 0 where
@@ -50,11 +50,11 @@ pub record Gates (c : Course) (core : CoreState) (gate : GateState) : Type 0 whe
   pub bytes : gate.bytes ≡ bytes_in (still_waiting c core gate.from)
   pub issued : gate.issued ≡ length (issued_by c core.appended)
   pub released : gate.released ≡ core.released
-  pub last : gate.next ≡ behind 0 (steps_of (issued_by c core.appended))
+  pub last : gate.next ≡ passed_after 0 (steps_of (issued_by c core.appended))
   pub passed : gate.passed ≤ least_approved core.approved c.required
   pub withheld : IsWithheldFrom c gate.from
   pub sound : gate.failed ≡ false
-  pub there : core.released ≤ length (kept gate.from (issued_by c core.appended))
+  pub there : core.released ≤ length (not_withheld gate.from (issued_by c core.appended))
   pub few : length gate.steps ≤ 4096
 
 -- how many of the waiting bytes are of steps that all of these readers approve

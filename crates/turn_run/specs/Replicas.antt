@@ -2,8 +2,8 @@
 use Rattle.std.specs.Prelude.{◌≡◌, ℕ, ◌<◌, ◌≤◌, true, false, List, [], ◌∷◌, ◌++◌, length, take, slice_index, slice_get, Some}
 use Rattle.run_events.specs.declared.record.Record.{Record}
 use Rattle.gate_core.specs.declared.take.Take.TheVariants.{Got}
-use Rattle.gate_core.specs.Core.{CoreState, TakeNext, Post, after_event, IsSound}
-use Rattle.gate_core.specs.Hub.{HubState, Gives, verdict_at, with_take, with_verdict}
+use Rattle.gate_core.specs.Core.{CoreState, TakeNext, Post, core_after, IsSound}
+use Rattle.gate_core.specs.Hub.{HubState, Gets, verdict_at, with_take, with_verdict}
 use Rattle.gate_core.specs.Follow.{approvals, hub_of}
 use Rattle.turn_run.specs.declared.reading.Turn.{Turn}
 use Rattle.turn_run.specs.declared.reading.Turn.TheVariants.{Took, Empty, Closed}
@@ -11,7 +11,7 @@ use Rattle.turn_run.specs.Following.{Following, SaysSame}
 use Rattle.turn_run.specs.Course.{Course, IsCourse, Agrees, log_of, plan_of}
 
 -- the follower is the hub's reader of this number: it has taken these records, and what it says of them is posted
-pub record Reads {F : Type 0} (f : Following F) (hub : HubState) (reader : ℕ) (follower : F) (items : List Record) : Type 0 where
+pub record IsReaderOf {F : Type 0} (f : Following F) (hub : HubState) (reader : ℕ) (follower : F) (items : List Record) : Type 0 where
   pub there : reader < length hub.taken
   pub taken : f.has_taken follower items
   pub posted : verdict_at hub reader ≡ f.verdict follower items
@@ -19,12 +19,12 @@ pub record Reads {F : Type 0} (f : Following F) (hub : HubState) (reader : ℕ) 
 -- it has taken some records
 pub record IsReader {F : Type 0} (f : Following F) (hub : HubState) (reader : ℕ) (follower : F) : Type 0 where
   pub items : List Record
-  pub reads : Reads f hub reader follower items
+  pub reads : IsReaderOf f hub reader follower items
 
 -- a turn that took the next record, and posted what is said of the records up to it
 pub record HasTaken {F : Type 0} (f : Following F) (hub hub' : HubState) (reader : ℕ) (old new : F) (items : List Record) : Type 0 where
   pub item : Record
-  pub given : Gives hub reader (Got item)
+  pub given : Gets hub reader (Got item)
   pub taken : f.has_taken new (items ++ item ∷ [])
   pub same : SaysSame f old new
   pub hub_is : hub' ≡ with_verdict (with_take hub reader) reader (f.verdict new (items ++ item ∷ []))
@@ -58,5 +58,5 @@ pub record Follows {F : Type 0} (f : Following F) (c : Course) (core : CoreState
   pub posted : (reader : ℕ) (follower : F) → slice_get followers reader ≡ Some follower → verdict_at hub reader ≡ f.verdict follower (take (slice_index core.taken reader) (log_of c))
 
 -- where a turn of a follower leads that took a record
-abbrev pub after_turn : Course → CoreState → ℕ → CoreState
-after_turn c core reader = after_event (plan_of c) (after_event (plan_of c) core (TakeNext reader)) (Post reader)
+abbrev pub core_after_read : Course → CoreState → ℕ → CoreState
+core_after_read c core reader = core_after (plan_of c) (core_after (plan_of c) core (TakeNext reader)) (Post reader)

@@ -2,7 +2,7 @@
 use Rattle.std.specs.Prelude.{◌≡◌, ◌⊎◌, ℕ, ◌+◌, ◌-◌, ◌*◌, ◌≤◌, ◌<◌, Bool, true, false, if◌then◌else◌, List, [], ◌∷◌, length, take, drop, is_some, sum_by, slice_index}
 use Rattle.after_edge.specs.Fault.{Rose}
 use Rattle.after_edge.specs.Sink.{Telling, Adds, Writes}
-use Rattle.gate_core.specs.Core.{CoreState, Append, Close, Break, IsSound, May, after_event}
+use Rattle.gate_core.specs.Core.{CoreState, Append, Close, Break, IsSound, May, core_after}
 use Rattle.gate_core.specs.Hub.{HubState}
 use Rattle.output_gate.specs.Gate.{GateState, count_below, with_release}
 use Rattle.run_events.specs.declared.item.Item.{Item}
@@ -15,7 +15,7 @@ use Rattle.any_machine.specs.Recording.{Recording}
 use Rattle.turn_run.specs.Following.{Following}
 use Rattle.turn_run.specs.Sources.{StillToCome, items_left}
 use Rattle.turn_run.specs.Course.{Course, log_of, output_of, bytes_in, plan_of}
-use Rattle.turn_run.specs.Replicas.{Follows, after_turn}
+use Rattle.turn_run.specs.Replicas.{Follows, core_after_read}
 use Rattle.turn_run.specs.Gates.{Gates, issued_by, least_approved, refusals, withheld_from}
 use Rattle.turn_run.specs.Endings.{end_in}
 
@@ -72,7 +72,7 @@ module _ {M F : Type 0} (f : Following F) where
 
   -- a follower took the next record, or there was none for it
   abbrev pub Reads : Course → CoreState → ℕ → Turn → Parts M F → Parts M F → Type 0
-  Reads c core reader turn.Took before after = (slice_index core.taken reader < core.appended) × IsFollowed c (after_turn c core reader) after
+  Reads c core reader turn.Took before after = (slice_index core.taken reader < core.appended) × IsFollowed c (core_after_read c core reader) after
   Reads c core reader turn.Empty before after = (core.closed ≡ false) × (slice_index core.taken reader ≡ core.appended)
   Reads c core reader turn.Closed before after = (core.closed ≡ true) × (slice_index core.taken reader ≡ core.appended)
 
@@ -114,13 +114,13 @@ module _ {M F : Type 0} (r : Recording M) (f : Following F) where
   -- it appended the next record
   pub record HasAppended (c : Course) (core : CoreState) (after : Parts M F) : Type 0 where
     pub «open» : core.closed ≡ false
-    pub at : IsAt c (after_event (plan_of c) core Append) after
+    pub at : IsAt c (core_after (plan_of c) core Append) after
 
   -- it closed the log after the last record
   pub record HasClosed (c : Course) (core : CoreState) (after : Parts M F) : Type 0 where
     pub «open» : core.closed ≡ false
     pub all : core.appended ≡ length c.items
-    pub at : IsAt c (after_event (plan_of c) core Close) after
+    pub at : IsAt c (core_after (plan_of c) core Close) after
 
   -- there is no place in the log, since some follower has a whole log still to take, or none in the gate for the byte of
   -- the next record
@@ -189,7 +189,7 @@ module _ {M F : Type 0} (r : Recording M) (f : Following F) where
     pub put : Adds sink.holds old new (bytes_between c core.released (core.released + done))
     pub rose : Rose (sink.faults old) (sink.faults new)
     pub uncounted : after.gate.released ≡ core.released
-    pub broken : IsBroken c (after_event (plan_of c) core (Break count done)) after
+    pub broken : IsBroken c (core_after (plan_of c) core (Break count done)) after
 
   -- A PERIOD OF TURNS
 

@@ -6,8 +6,8 @@ use Rattle.turn_run.specs.declared.source.Source.{Source}
 use Rattle.any_machine.specs.Recording.{Recording}
 
 -- the item that waits for its place in the log
-abbrev pub waiting_of : {M : Type 0} → Source M → Option Item
-waiting_of source = source.waiting
+abbrev pub waiting_item : {M : Type 0} → Source M → Option Item
+waiting_item source = source.waiting
 
 -- the item that waits, and then those that are still to come of the recorder
 pub record StillToCome {M : Type 0} (r : Recording M) (source : Source M) (items : List Item) : Type 0 where

@@ -43,8 +43,8 @@ module _ {M F S : Type 0} (r : Recording M) (f : Following F) (sink : Telling S)
   abbrev pub Fails : Letter → Parts M F → Parts M F → S → S → Type 0
   Fails turn before after old new = (turn ≡ letter.Release) × ((c : Course) (core : CoreState) → IsAt r f c core before → HasBroken r f c core after sink old new)
 
-  -- a put failed in the turn behind the turns of these letters
-  pub record FailsBehind (letters : List Letter) (before after : Parts M F) (old new : S) : Type 0 where
+  -- a put failed in the turn after the turns of these letters
+  pub record FailsAfter (letters : List Letter) (before after : Parts M F) (old new : S) : Type 0 where
     pub mid : Parts M F
     pub now : S
     pub are : AreTurns letters before mid old now
@@ -54,14 +54,14 @@ module _ {M F S : Type 0} (r : Recording M) (f : Following F) (sink : Telling S)
   pub record FailsIn (turns : List Letter) (before after : Parts M F) (old new : S) : Type 0 where
     pub place : ℕ
     pub turn : slice_get turns place ≡ Some letter.Release
-    pub fails : FailsBehind (take place turns) before after old new
+    pub fails : FailsAfter (take place turns) before after old new
 
   -- Turns by a pattern, so many times and then its first ones, up to a turn of the gate in which a put failed: one of the
   -- pattern, or the last turn of a run that is read out.
   pub record FailsBy (turns : List Letter) (before after : Parts M F) (old new : S) : Type 0 where
     pub periods : ℕ
     pub place : ℕ
-    pub fails : FailsBehind (repeated periods turns ++ take place turns) before after old new
+    pub fails : FailsAfter (repeated periods turns ++ take place turns) before after old new
     pub turn : (slice_get turns place ≡ Some letter.Release) ⊎ ((place ≡ 0) × IsReadOut fails.mid)
 
   -- and the log was closed where it stood then

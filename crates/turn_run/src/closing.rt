@@ -1,6 +1,6 @@
 //! What stands when a run is over.
 ghost use Rattle.std.specs.Prelude.{◌≡◌, ◌<◌, ℕ, length, slice_get, Some};
-ghost use Rattle.turn_run.specs.Closings.{ClosesFront, ClosesWhole, IsEnded, IsReadOut, IsStopped, appended_of, ending_of, followers_of, issued_of, readers_of, released_of, taken_of};
+ghost use Rattle.turn_run.specs.Closings.{IsCutRun, IsWholeRun, IsEnded, IsReadOut, IsStopped, appended_of, ending_of, followers_of, issued_of, readers_of, released_of, taken_of};
 ghost use Rattle.turn_run.specs.Course.{Course};
 ghost use Rattle.turn_run.specs.Openings.{followers_of as followers_in};
 
@@ -77,10 +77,10 @@ impl<M: Recorder, F: Follower> Parts<M, F> {
         requires { IsReadOut self }
         ensures whole { (c : Course)
             → IsEnded M.recording F.following c self
-            → ClosesWhole F.following c result }
-        ensures front { (c : Course) (count put : ℕ)
+            → IsWholeRun F.following c result }
+        ensures cut { (c : Course) (count put : ℕ)
             → IsStopped M.recording F.following c count put self
-            → ClosesFront F.following c count put result }
+            → IsCutRun F.following c count put result }
         ensures followers { followers_of result ≡ followers_in self }
     {
         Closing {

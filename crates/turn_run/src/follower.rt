@@ -15,17 +15,23 @@ pub trait Follower: Drop {
     /// Takes the next record. It takes no memory.
     fn take(&mut self, item: &Record)
         requires { IsRecord item.now }
-        ensures taken { (items : List Record) → following.has_taken self.old items → following.has_taken self.new (items ++ item.now ∷ []) }
+        ensures taken { (items : List Record)
+            → following.has_taken self.old items
+            → following.has_taken self.new (items ++ item.now ∷ []) }
         ensures same { SaysSame following self.old self.new }
         ensures made { following.make self.new ≡ following.make self.old };
 
     /// Below which step it approves, and whether it refuses the rest.
     fn verdict(&self) -> Verdict
-        ensures { (items : List Record) → following.has_taken self.now items → result ≡ following.verdict self.now items };
+        ensures { (items : List Record)
+            → following.has_taken self.now items
+            → result ≡ following.verdict self.now items };
 
     /// Before its first record it approves nothing.
     ghost starts: { (f : Self) → SaysNothing (following.verdict f []) };
 
     /// What it has approved it does not take back.
-    ghost rises: { (f : Self) (items : List Record) (item : Record) → (following.verdict f items).approved ≤ (following.verdict f (items ++ item ∷ [])).approved };
+    ghost rises: { (f : Self) (items : List Record) (item : Record)
+        → (following.verdict f items).approved
+        ≤ (following.verdict f (items ++ item ∷ [])).approved };
 }

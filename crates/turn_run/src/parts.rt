@@ -84,7 +84,9 @@ impl<M: Recorder, F: Follower> Parts<M, F> {
     // waits. After the last record the log is closed.
     pub(crate) fn append_next(&mut self) -> Recorded
         requires { IsSoundRun M.recording F.following self.old }
-        ensures records { (c : Course) (core : CoreState) → IsAt M.recording F.following c core self.old → Records M.recording F.following c core result self.old self.new }
+        ensures records { (c : Course) (core : CoreState)
+            → IsAt M.recording F.following c core self.old
+            → Records M.recording F.following c core result self.old self.new }
         ensures lessens { Lessens M.recording F.following result self.old self.new }
         ensures made { AreSame F.following (followers_of self.old) (followers_of self.new) }
     {
@@ -107,7 +109,9 @@ impl<M: Recorder, F: Follower> Parts<M, F> {
     pub(crate) fn read(&mut self, reader: u32) -> Turn
         requires followed { IsFollowedRun F.following self.old }
         requires there { reader < length self.old.followers.items }
-        ensures reads { (c : Course) (core : CoreState) → IsFollowed F.following c core self.old → Reads F.following c core reader result self.old self.new }
+        ensures reads { (c : Course) (core : CoreState)
+            → IsFollowed F.following c core self.old
+            → Reads F.following c core reader result self.old self.new }
         ensures besides { IsBesides self.old self.new }
         ensures lessens { LessensRead result self.old self.new }
         ensures made { AreSame F.following (followers_of self.old) (followers_of self.new) }
@@ -120,8 +124,13 @@ impl<M: Recorder, F: Follower> Parts<M, F> {
     // refuses.
     pub(crate) fn release<O: Sink>(&mut self, out: &mut O) -> Result<(), SinkFault>
         requires { IsSoundRun M.recording F.following self.old }
-        ensures ok { OnOk result ((c : Course) (core : CoreState) → IsAt M.recording F.following c core self.old → HasReleased M.recording F.following c core self.old self.new O.told out.old out.new) }
-        ensures err { OnErr result ((c : Course) (core : CoreState) → IsAt M.recording F.following c core self.old → HasBroken M.recording F.following c core self.new O.told out.old out.new) }
+        ensures ok { OnOk result ((c : Course) (core : CoreState)
+            → IsAt M.recording F.following c core self.old
+            → HasReleased M.recording F.following c core self.old self.new
+            O.told out.old out.new) }
+        ensures err { OnErr result ((c : Course) (core : CoreState)
+            → IsAt M.recording F.following c core self.old
+            → HasBroken M.recording F.following c core self.new O.told out.old out.new) }
         ensures made { AreSame F.following (followers_of self.old) (followers_of self.new) }
     {
         match let_out(&mut self.gate, &self.hub, &self.required, out) {
@@ -189,12 +198,19 @@ fn let_out<O: Sink>(
 ) -> Result<(), SinkFault>
     requires there { All (λ reader. reader < length hub.now.taken) required.now }
     requires sound { gate.old.failed ≡ false }
-    requires passed { All (λ reader. (after_put hub.now required.now gate.old).passed ≤ approved_at hub.now reader) required.now }
-    ensures put { OnOk result (Writes O.told out.old out.new (take (approved_in hub.now required.now gate.old) gate.old.bytes)) }
-    ensures part { OnErr result (WritesPart O.told out.old out.new (take (approved_in hub.now required.now gate.old) gate.old.bytes)) }
+    requires passed { All (λ reader.
+        (after_put hub.now required.now gate.old).passed ≤ approved_at hub.now reader)
+        required.now }
+    ensures put { OnOk result (Writes O.told out.old out.new
+        (take (approved_in hub.now required.now gate.old) gate.old.bytes)) }
+    ensures part { OnErr result (WritesPart O.told out.old out.new
+        (take (approved_in hub.now required.now gate.old) gate.old.bytes)) }
     ensures some { OnErr result (1 ≤ approved_in hub.now required.now gate.old) }
-    ensures withheld { OnOk result (gate.new ≡ withheld_from (refusals hub.now required.now) (after_put hub.now required.now gate.old)) }
-    ensures failed { OnErr result (gate.new ≡ with_failure gate.old (approved_in hub.now required.now gate.old)) }
+    ensures withheld { OnOk result (gate.new
+        ≡ withheld_from (refusals hub.now required.now)
+        (after_put hub.now required.now gate.old)) }
+    ensures failed { OnErr result (gate.new
+        ≡ with_failure gate.old (approved_in hub.now required.now gate.old)) }
 {
     let below = least_approved(hub, required);
     match gate.release(below, out) {

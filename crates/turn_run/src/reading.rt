@@ -1,7 +1,7 @@
 //! A turn of a reader of the log.
 ghost use Rattle.std.specs.Prelude.{◌≡◌, List};
 ghost use Rattle.run_events.specs.declared.record.Record.{Record};
-ghost use Rattle.turn_run.specs.Replicas.{IsReader, Reads, Turned};
+ghost use Rattle.turn_run.specs.Replicas.{IsReader, IsReaderOf, Turned};
 
 use crate::Follower;
 use gate_core::{Hub, Take};
@@ -21,7 +21,9 @@ pub enum Turn {
 /// where there is one, and posts below which step it approves then. It takes no memory.
 pub fn read_next<F: Follower>(follower: &mut F, reader: u32, hub: &mut Hub) -> Turn
     requires { IsReader F.following hub.old reader follower.old }
-    ensures turned { (items : List Record) → Reads F.following hub.old reader follower.old items → Turned F.following result hub.old hub.new reader follower.old follower.new items }
+    ensures turned { (items : List Record)
+        → IsReaderOf F.following hub.old reader follower.old items
+        → Turned F.following result hub.old hub.new reader follower.old follower.new items }
     ensures made { F.following.make follower.new ≡ F.following.make follower.old }
 {
     match hub.take(reader) {

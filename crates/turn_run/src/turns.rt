@@ -33,8 +33,10 @@ pub fn run_turns<M: Recorder, F: Follower, O: Sink>(
     ensures err { OnErr result ((c : Course)
         → IsOpened M.recording F.following c parts.old
         → HasStopped M.recording F.following c parts.new O.told out.old out.new) }
-    ensures turns { OnOk result (TakesTurns M.recording F.following O.told turns.now parts.old parts.new out.old out.new) }
-    ensures stops { OnErr result (StopsBy M.recording F.following O.told turns.now parts.old parts.new out.old out.new) }
+    ensures turns { OnOk result (TakesTurns M.recording F.following O.told turns.now
+        parts.old parts.new out.old out.new) }
+    ensures stops { OnErr result (StopsBy M.recording F.following O.told turns.now
+        parts.old parts.new out.old out.new) }
     ensures made { AreSame F.following (followers_of parts.old) (followers_of parts.new) }
 {
     match take_all_turns(parts, turns, out) {
@@ -60,8 +62,10 @@ fn take_all_turns<M: Recorder, F: Follower, O: Sink>(
     ensures err { OnErr result ((c : Course)
         → IsOpened M.recording F.following c parts.old
         → HasCrashed M.recording F.following c 0 parts.new O.told out.old out.new) }
-    ensures turns { OnOk result (TakesTurns M.recording F.following O.told turns.now parts.old parts.new out.old out.new) }
-    ensures fails { OnErr result (FailsBy M.recording F.following O.told turns.now parts.old parts.new out.old out.new) }
+    ensures turns { OnOk result (TakesTurns M.recording F.following O.told turns.now
+        parts.old parts.new out.old out.new) }
+    ensures fails { OnErr result (FailsBy M.recording F.following O.told turns.now
+        parts.old parts.new out.old out.new) }
     ensures made { AreSame F.following (followers_of parts.old) (followers_of parts.new) }
 {
     while !parts.is_read_out() {
@@ -88,8 +92,10 @@ fn take_period<M: Recorder, F: Follower, O: Sink>(
         → IsAt M.recording F.following c core parts.old
         → HasCome M.recording F.following c core.released parts.new O.told out.old out.new) }
     ensures moved { OnOk result (HaveMoved M.recording F.following turns.now parts.old parts.new) }
-    ensures turns { OnOk result (AreTurns M.recording F.following O.told turns.now parts.old parts.new out.old out.new) }
-    ensures fails { OnErr result (FailsIn M.recording F.following O.told turns.now parts.old parts.new out.old out.new) }
+    ensures turns { OnOk result (AreTurns M.recording F.following O.told turns.now
+        parts.old parts.new out.old out.new) }
+    ensures fails { OnErr result (FailsIn M.recording F.following O.told turns.now
+        parts.old parts.new out.old out.new) }
     ensures err { OnErr result ((c : Course) (core : CoreState)
         → IsAt M.recording F.following c core parts.old
         → HasCrashed M.recording F.following c core.released parts.new O.told out.old out.new) }
@@ -116,8 +122,10 @@ fn take_turn<M: Recorder, F: Follower, O: Sink>(
         → IsAt M.recording F.following c core parts.old
         → HasCome M.recording F.following c core.released parts.new O.told out.old out.new) }
     ensures moves { OnOk result (Moves M.recording F.following letter parts.old parts.new) }
-    ensures turn { OnOk result (IsTurn M.recording F.following O.told letter parts.old parts.new out.old out.new) }
-    ensures fails { OnErr result (Fails M.recording F.following O.told letter parts.old parts.new out.old out.new) }
+    ensures turn { OnOk result (IsTurn M.recording F.following O.told letter
+        parts.old parts.new out.old out.new) }
+    ensures fails { OnErr result (Fails M.recording F.following O.told letter
+        parts.old parts.new out.old out.new) }
     ensures err { OnErr result ((c : Course) (core : CoreState)
         → IsAt M.recording F.following c core parts.old
         → HasCrashed M.recording F.following c core.released parts.new O.told out.old out.new) }

@@ -1,13 +1,14 @@
 use Rattle.std.proofs.Common.{subst, take}
+use Rattle.std.proofs.lemmas.Result.{on_err_weaker, on_ok_weaker}
 use Rattle.after_edge.specs.Sink.{Adds, Writes}
 use Rattle.guard_run.specs.Jobs.{course_of}
 use Rattle.guard_run.proofs.CourseLaws.{course_let_out, course_released}
 use Rattle.guard_run.proofs.OpeningLaws.{still_replicas}
 use Rattle.guard_run.proofs.turns.run_turns.Goals as goal
 
-pub returns-in-Ok-clause-ok : goal.returns-in-Ok-clause-ok
-returns-in-Ok-clause-ok g c = λ job opened.
-    let ended = c.in-Ok.ensures.ok (course_of job opened.places) opened.opened in
+pub returns-clause-ok : goal.returns-clause-ok
+returns-clause-ok g c = on_ok_weaker c.run_turns.result (λ ends job opened.
+    let ended = ends (course_of job opened.places) opened.opened in
     record {
       ended = record {
         places = opened.places;
@@ -15,11 +16,11 @@ returns-in-Ok-clause-ok g c = λ job opened.
         ended = ended.ended;
       };
       put = subst (Writes g.O.Sink.told c.args.out.now c.run_turns.new.out) (course_released job opened.places opened.replicas.runnable.marked opened.replicas.required) ended.put;
-    }
+    }) c.run_turns.ensures.ok
 
-pub returns-in-Err-clause-err : goal.returns-in-Err-clause-err
-returns-in-Err-clause-err g c = λ job opened.
-    let stopped = c.in-Err.ensures.err (course_of job opened.places) opened.opened in
+pub returns-clause-err : goal.returns-clause-err
+returns-clause-err g c = on_err_weaker c.run_turns.result (λ stops job opened.
+    let stopped = stops (course_of job opened.places) opened.opened in
     record {
       count = stopped.count;
       put = stopped.put;
@@ -31,4 +32,4 @@ returns-in-Err-clause-err g c = λ job opened.
       };
       added = subst (λ l. Adds g.O.Sink.told.holds c.args.out.now c.run_turns.new.out (take stopped.put l)) (course_let_out job opened.places opened.replicas.required stopped.count) stopped.added;
       rose = stopped.rose;
-    }
+    }) c.run_turns.ensures.err

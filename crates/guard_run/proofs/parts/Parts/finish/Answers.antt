@@ -10,4 +10,4 @@ returns-clause-whole c = λ job ended.
 
 pub returns-clause-cut : goal.returns-clause-cut
 returns-clause-cut c = λ job count put stopped.
-    closes_cut job stopped.places (record { over = c.finish.result }) (subst (AreReplicas job stopped.places) (sym c.finish.ensures.followers) stopped.replicas) count put (c.finish.ensures.front (course_of job stopped.places) count put stopped.stopped)
+    closes_cut job stopped.places (record { over = c.finish.result }) (subst (AreReplicas job stopped.places) (sym c.finish.ensures.followers) stopped.replicas) count put (c.finish.ensures.cut (course_of job stopped.places) count put stopped.stopped)

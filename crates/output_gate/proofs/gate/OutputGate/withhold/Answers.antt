@@ -11,4 +11,4 @@ pub invariant_of-self : goal.invariant_of-self
 invariant_of-self c =
     let passed : c.self.inside.passed ≤ c.args.from = search rules in
     let kept = withhold-IsGate _ c.args.from c.self.invariant.2 passed in
-    rw (c.truncate_back.ensures, c.truncate_back-2.ensures, c.least_from.ensures, c.len.ensures.len, c.count_below-kept.ensures.count) (c.self.invariant.0, c.self.invariant.1, kept)
+    rw (c.truncate_back.ensures, c.truncate_back-2.ensures, c.first_withheld.ensures, c.len.ensures.len, c.count_below-kept.ensures.count) (c.self.invariant.0, c.self.invariant.1, kept)

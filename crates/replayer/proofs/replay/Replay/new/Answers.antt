@@ -1,5 +1,4 @@
 use Rattle.std.proofs.Common.{[], ap, ◌∙◌, subst}
-use Rattle.machine_model.specs.Image.{ram_at_start, ram_with}
 use Rattle.hart_model.specs.Machine.{hart}
 use Rattle.hart_model.specs.State.{State, reset_state}
 use Rattle.any_replay.specs.Replays as any
@@ -7,8 +6,7 @@ use Rattle.replayer.specs.Guest.{steps_of, ram_bytes}
 use Rattle.replayer.proofs.replay.Replay.new.Goals as goal
 
 pub returns-clause-replays : goal.returns-clause-replays
-unfolding ram_at_start
 returns-clause-replays c =
-    subst (λ (s : State). any.Replays hart steps_of ram_bytes s [] c.new-3.result)
-    (c.new-2.ensures ∙ ap (λ ram. reset_state ram c.image.inside.entry) (c.load_into.ensures.loaded ∙ ap (ram_with c.args.image.now.segments) c.in_ok-ram.ensures) ∙ ap (reset_state _) (ap (λ i. i.entry) c.image.view_is))
-    c.new-3.ensures.replays
+    subst (λ (s : State). any.Replays hart steps_of ram_bytes s [] c.new-2.result)
+    (c.new.ensures ∙ ap (λ ram. reset_state ram c.image.inside.entry) c.in_ok-ram.ensures.start ∙ ap (reset_state _) (ap (λ i. i.entry) c.image.view_is))
+    c.new-2.ensures.replays
