@@ -19,14 +19,14 @@ impl<H: Hart> Replay<H> {
     ghost use Rattle.run_events.specs.declared.record.Record.{Record as Item};
     ghost use Rattle.run_events.specs.Record.{IsRecord};
     ghost use Rattle.any_machine.specs.Replay.{outcome};
-    ghost use Rattle.any_replay.specs.Replays.{Replays, KeepsReplaying, KeepsShowing, state_in};
+    ghost use Rattle.any_replay.specs.Replays.{Replays, KeepsReplaying, KeepsShowing, hart_in, fault_in, takes_in, state_in};
     ghost use Rattle.any_replay.specs.Taking.{JudgesAll, ShowsAll, answer_of, takes_after};
 
     /// A replay that was fed nothing, of a hart that has done no step.
     pub fn new(hart: H) -> Replay<H>
         requires { H.done hart ≡ 0 }
         ensures replays { Replays H.machine H.done H.ram_size hart [] result }
-        ensures takes { result.takes ≡ 0 }
+        ensures takes { takes_in result ≡ 0 }
     {
         Replay {
             standing: Standing {
@@ -44,13 +44,13 @@ impl<H: Hart> Replay<H> {
     // Takes a record, where none had a fault before, and answers its fault.
     fn judge<W: Watcher>(&mut self, item: &Record, seen: &mut W) -> Option<Diverged>
         requires item { IsRecord item.now }
-        requires size { H.ram_size self.old.standing.hart ≡ 1024 * W.ram_kib seen.old }
+        requires size { H.ram_size (hart_in self.old) ≡ 1024 * W.ram_kib seen.old }
         ensures judges { JudgesAll H.machine H.done H.ram_size item.now self.old self.new result }
         ensures shown { ShowsAll H.machine H.done H.ram_size item.now self.old
             (W.has_seen seen.old) (W.has_seen seen.new) }
-        ensures ram { H.ram_size self.new.standing.hart ≡ H.ram_size self.old.standing.hart }
-        ensures diverged { self.new.diverged ≡ self.old.diverged }
-        ensures takes { self.new.takes ≡ self.old.takes }
+        ensures ram { H.ram_size (hart_in self.new) ≡ H.ram_size (hart_in self.old) }
+        ensures diverged { fault_in self.new ≡ fault_in self.old }
+        ensures takes { takes_in self.new ≡ takes_in self.old }
         ensures size { W.ram_kib seen.new ≡ W.ram_kib seen.old }
         ensures made { W.make seen.new ≡ W.make seen.old }
     {
@@ -77,15 +77,15 @@ impl<H: Hart> Replay<H> {
     /// nothing. It takes no memory.
     pub fn take<W: Watcher>(&mut self, item: &Record, seen: &mut W) -> Result<(), Diverged>
         requires item { IsRecord item.now }
-        requires size { H.ram_size self.old.standing.hart ≡ 1024 * W.ram_kib seen.old }
-        ensures answer { result ≡ answer_of self.new.diverged }
+        requires size { H.ram_size (hart_in self.old) ≡ 1024 * W.ram_kib seen.old }
+        ensures answer { result ≡ answer_of (fault_in self.new) }
         ensures replays { KeepsReplaying H.machine H.done H.ram_size item.now self.old self.new }
         ensures shown { KeepsShowing H.machine H.done H.ram_size item.now self.old
             (W.has_seen seen.old) (W.has_seen seen.new) }
-        ensures diverged { IsTrue (is_some self.old.diverged) → self.new ≡ self.old }
-        ensures still { IsTrue (is_some self.old.diverged) → seen.new ≡ seen.old }
-        ensures takes { self.new.takes ≡ takes_after self.old.takes self.new.diverged }
-        ensures ram { H.ram_size self.new.standing.hart ≡ H.ram_size self.old.standing.hart }
+        ensures diverged { IsTrue (is_some (fault_in self.old)) → self.new ≡ self.old }
+        ensures still { IsTrue (is_some (fault_in self.old)) → seen.new ≡ seen.old }
+        ensures takes { takes_in self.new ≡ takes_after (takes_in self.old) (fault_in self.new) }
+        ensures ram { H.ram_size (hart_in self.new) ≡ H.ram_size (hart_in self.old) }
         ensures size { W.ram_kib seen.new ≡ W.ram_kib seen.old }
         ensures made { W.make seen.new ≡ W.make seen.old }
     {
@@ -102,7 +102,7 @@ impl<H: Hart> Replay<H> {
 
     /// The number of steps done.
     pub fn reach(&self) -> u32
-        ensures done { result ≡ H.done self.now.standing.hart }
+        ensures done { result ≡ H.done (hart_in self.now) }
         ensures executed { (start : H) (items : List Item)
             → Replays H.machine H.done H.ram_size start items self.now
             → result ≡ (outcome H.machine start items).done }
@@ -112,7 +112,7 @@ impl<H: Hart> Replay<H> {
 
     /// The hart.
     pub fn hart(&self) -> &H
-        ensures hart { result.now ≡ self.now.standing.hart }
+        ensures hart { result.now ≡ hart_in self.now }
         ensures state { (start : H) (items : List Item)
             → Replays H.machine H.done H.ram_size start items self.now
             → result.now ≡ state_in H.machine start (outcome H.machine start items) }
@@ -122,7 +122,7 @@ impl<H: Hart> Replay<H> {
 
     /// The number of records accepted, which stops at 2^64 - 1.
     pub fn takes(&self) -> u64
-        ensures { result ≡ self.now.takes }
+        ensures { result ≡ takes_in self.now }
     {
         self.takes
     }

@@ -13,14 +13,14 @@ Replays start items replay = any.Replays hart steps_of ram_bytes start items rep
 
 -- where its hart stands, and the number of bytes of its RAM
 abbrev pub state_of : Replay → State
-state_of replay = replay.fed.standing.hart
+state_of replay = any.hart_in replay.fed
 
 abbrev pub ram_size_of : Replay → ℕ
 ram_size_of replay = length (state_of replay).ram
 
 -- the first fault of the list, and how many records were accepted
 abbrev pub fault_of : Replay → Option Diverged
-fault_of replay = replay.fed.diverged
+fault_of replay = any.fault_in replay.fed
 
 abbrev pub takes_of : Replay → ℕ
-takes_of replay = replay.fed.takes
+takes_of replay = any.takes_in replay.fed
