@@ -132,6 +132,7 @@ impl Engine {
     }
 
     // Loads what a device register supplied; where there is none, it is exception 5.
+    #[inline(always)]
     fn load_device(
         &mut self,
         supplied: Option<Supplied>,
@@ -164,6 +165,7 @@ impl Engine {
     }
 
     /// Loads from RAM or from a device register. A misaligned address is exception 4, another one exception 5.
+    #[inline(always)]
     pub fn load(
         &mut self,
         supplied: Option<Supplied>,
@@ -255,6 +257,7 @@ impl Engine {
     }
 
     // Stores to a device register; where there is none, it is exception 7.
+    #[inline(always)]
     fn store_device(&mut self, size: u32, op: StoreOp, value: u32, address: u32) -> Done
         ensures { at size result self.new
             ≡ midway self.old
@@ -281,6 +284,7 @@ impl Engine {
     }
 
     /// Stores to RAM or to a device register. A misaligned address is exception 6, another one exception 7.
+    #[inline(always)]
     pub fn store(&mut self, size: u32, op: StoreOp, value: u32, address: u32) -> Done
         ensures { at size result self.new
             ≡ midway self.old (model.storing self.old size op value address) }

@@ -4,7 +4,7 @@ ghost use Rattle.std.specs.Prelude.{◌≡◌, ℕ, ◌+◌, ◌<◌, true, None
 ghost use Rattle.rv_decode.specs.Valid.{IsValid};
 ghost use Rattle.hart_model.specs.Machine.{holds_word};
 ghost use Rattle.hart_model.specs.Step.{cpu, outcome, step_by, trapped, interrupted, touch};
-ghost use Rattle.rv_cpu.specs.Midway.{Goes, ended};
+ghost use Rattle.rv_cpu.specs.Midway.{Goes, IsLeft, at, closed, ended};
 
 use crate::atomics::is_reserved;
 use crate::done::Done;
@@ -75,6 +75,24 @@ impl Engine {
         }
     }
 
+    // Ends a step whose instruction has left this, where x10 to x12 held `told` before it.
+    #[inline(always)]
+    fn conclude(&mut self, word: u32, size: u32, told: Told, done: Done) -> Event
+        requires room { self.old.step < MOST_STEPS }
+        requires left { IsLeft done }
+        ensures { closed told word (at size done self.old) ≡ Some (result, self.new) }
+    {
+        match done {
+            Done::Quiet { result, next } => self.end(word, told, result, next, Access::Quiet),
+            Done::Accessed { result, access } => {
+                let next = self.next(size);
+                self.end(word, told, result, next, access)
+            }
+            Done::Raised { cause, value } => self.trap(word, cause, value),
+            Done::Other => unreachable!(),
+        }
+    }
+
     // Does the step of an instruction.
     fn run(
         &mut self,
@@ -90,14 +108,39 @@ impl Engine {
             ≡ (result, self.new) }
     {
         let told = self.told();
-        match self.execute(lines, supplied, word, size, instr) {
-            Done::Quiet { result, next } => self.end(word, told, result, next, Access::Quiet),
-            Done::Accessed { result, access } => {
-                let next = self.next(size);
-                self.end(word, told, result, next, access)
+        let done = self.execute(lines, supplied, word, size, instr);
+        self.conclude(word, size, told, done)
+    }
+
+    // The same, with loads and stores in it, of which the guests that wait for devices are full.
+    #[tactic(auto, unfolding(hart_model::specs::Step::outcome))]
+    #[inline(always)]
+    fn run_fast(
+        &mut self,
+        lines: u8,
+        supplied: Option<Supplied>,
+        word: u32,
+        size: u32,
+        instr: Instr,
+    ) -> Event
+        requires valid { IsValid instr }
+        requires room { self.old.step < MOST_STEPS }
+        ensures { step_by self.old word (outcome self.old lines supplied word size instr)
+            ≡ (result, self.new) }
+    {
+        let told = self.told();
+        match instr {
+            Instr::Load { op, rd, rs1, imm } => {
+                let address = self.register(rs1).wrapping_add(imm.cast_unsigned());
+                let done = self.load(supplied, size, op, rd, address);
+                self.conclude(word, size, told, done)
             }
-            Done::Raised { cause, value } => self.trap(word, cause, value),
-            Done::Other => unreachable!(),
+            Instr::Store { op, rs1, rs2, imm } => {
+                let address = self.register(rs1).wrapping_add(imm.cast_unsigned());
+                let done = self.store(size, op, self.register(rs2), address);
+                self.conclude(word, size, told, done)
+            }
+            _ => self.run(lines, supplied, word, size, instr),
         }
     }
 
@@ -115,7 +158,7 @@ impl Engine {
         }
         let word = self.ram.load(self.pc, SIZE);
         match decode(word) {
-            Some(instr) => self.run(lines, supplied, word, SIZE, instr),
+            Some(instr) => self.run_fast(lines, supplied, word, SIZE, instr),
             None => self.trap(word, 2, word),
         }
     }
