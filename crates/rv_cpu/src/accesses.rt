@@ -172,12 +172,16 @@ impl Engine {
         size: u32,
         op: LoadOp,
         rd: u32,
-        address: u32,
+        rs1: u32,
+        offset: u32,
     ) -> Done
-        requires { IsRegister rd }
+        requires rd { IsRegister rd }
+        requires rs1 { IsRegister rs1 }
         ensures { at size result self.new
-            ≡ midway self.old (model.loading self.old supplied size op rd address) }
+            ≡ midway self.old
+            (model.loading self.old supplied size op rd (sum (register self.old rs1) offset)) }
     {
+        let address = self.register(rs1).wrapping_add(offset);
         let width = alu::load_width(op);
         if !is_aligned(address, width) {
             Done::Raised {
@@ -285,10 +289,16 @@ impl Engine {
 
     /// Stores to RAM or to a device register. A misaligned address is exception 6, another one exception 7.
     #[inline(always)]
-    pub fn store(&mut self, size: u32, op: StoreOp, value: u32, address: u32) -> Done
+    pub fn store(&mut self, size: u32, op: StoreOp, rs2: u32, rs1: u32, offset: u32) -> Done
+        requires rs2 { IsRegister rs2 }
+        requires rs1 { IsRegister rs1 }
         ensures { at size result self.new
-            ≡ midway self.old (model.storing self.old size op value address) }
+            ≡ midway self.old
+            (model.storing self.old size op (register self.old rs2)
+            (sum (register self.old rs1) offset)) }
     {
+        let address = self.register(rs1).wrapping_add(offset);
+        let value = self.register(rs2);
         let width = alu::store_width(op);
         if !is_aligned(address, width) {
             Done::Raised {

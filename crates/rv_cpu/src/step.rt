@@ -1,8 +1,11 @@
 //! One step.
 ghost use Rattle.memory_map.specs.declared.TheConstants.{MOST_STEPS};
 ghost use Rattle.std.specs.Prelude.{◌≡◌, ℕ, ◌+◌, ◌<◌, true, None, Some, IsTrue};
-ghost use Rattle.rv_decode.specs.Valid.{IsValid};
+ghost use Rattle.rv_decode.specs.Valid.{IsRegister, IsValid};
 ghost use Rattle.hart_model.specs.Machine.{holds_word};
+ghost use Rattle.hart_model.specs.Effect as model;
+ghost use Rattle.hart_model.specs.Operations.{sum};
+ghost use Rattle.hart_model.specs.State.{register};
 ghost use Rattle.hart_model.specs.Step.{cpu, outcome, step_by, trapped, interrupted, touch};
 ghost use Rattle.rv_cpu.specs.Midway.{Goes, IsLeft, at, closed, ended};
 
@@ -10,7 +13,7 @@ use crate::atomics::is_reserved;
 use crate::done::Done;
 use crate::engine::Engine;
 use run_events::{Access, Event, Supplied, Told};
-use rv_decode::{Instr, decode};
+use rv_decode::{Instr, LoadOp, StoreOp, decode};
 
 /// The bytes of an instruction.
 pub const SIZE: u32 = 4;
@@ -93,7 +96,7 @@ impl Engine {
         }
     }
 
-    // Does the step of an instruction.
+    // Does the step of an instruction, of any kind.
     fn run(
         &mut self,
         lines: u8,
@@ -112,10 +115,58 @@ impl Engine {
         self.conclude(word, size, told, done)
     }
 
-    // The same, with loads and stores in it, of which the guests that wait for devices are full.
+    // Does the step of a load.
+    #[inline(always)]
+    fn run_load(
+        &mut self,
+        supplied: Option<Supplied>,
+        word: u32,
+        size: u32,
+        op: LoadOp,
+        rd: u32,
+        rs1: u32,
+        offset: u32,
+    ) -> Event
+        requires rd { IsRegister rd }
+        requires rs1 { IsRegister rs1 }
+        requires room { self.old.step < MOST_STEPS }
+        ensures { step_by self.old word
+            (model.loading self.old supplied size op rd (sum (register self.old rs1) offset))
+            ≡ (result, self.new) }
+    {
+        let told = self.told();
+        let done = self.load(supplied, size, op, rd, rs1, offset);
+        self.conclude(word, size, told, done)
+    }
+
+    // Does the step of a store.
+    #[inline(always)]
+    fn run_store(
+        &mut self,
+        word: u32,
+        size: u32,
+        op: StoreOp,
+        rs2: u32,
+        rs1: u32,
+        offset: u32,
+    ) -> Event
+        requires rs2 { IsRegister rs2 }
+        requires rs1 { IsRegister rs1 }
+        requires room { self.old.step < MOST_STEPS }
+        ensures { step_by self.old word
+            (model.storing self.old size op (register self.old rs2)
+            (sum (register self.old rs1) offset))
+            ≡ (result, self.new) }
+    {
+        let told = self.told();
+        let done = self.store(size, op, rs2, rs1, offset);
+        self.conclude(word, size, told, done)
+    }
+
+    // Does the step of an instruction. Loads and stores are done right here: guests that wait for devices are full of them.
     #[tactic(auto, unfolding(hart_model::specs::Step::outcome))]
     #[inline(always)]
-    fn run_fast(
+    fn run_shortly(
         &mut self,
         lines: u8,
         supplied: Option<Supplied>,
@@ -128,17 +179,12 @@ impl Engine {
         ensures { step_by self.old word (outcome self.old lines supplied word size instr)
             ≡ (result, self.new) }
     {
-        let told = self.told();
         match instr {
             Instr::Load { op, rd, rs1, imm } => {
-                let address = self.register(rs1).wrapping_add(imm.cast_unsigned());
-                let done = self.load(supplied, size, op, rd, address);
-                self.conclude(word, size, told, done)
+                self.run_load(supplied, word, size, op, rd, rs1, imm.cast_unsigned())
             }
             Instr::Store { op, rs1, rs2, imm } => {
-                let address = self.register(rs1).wrapping_add(imm.cast_unsigned());
-                let done = self.store(size, op, self.register(rs2), address);
-                self.conclude(word, size, told, done)
+                self.run_store(word, size, op, rs2, rs1, imm.cast_unsigned())
             }
             _ => self.run(lines, supplied, word, size, instr),
         }
@@ -158,7 +204,7 @@ impl Engine {
         }
         let word = self.ram.load(self.pc, SIZE);
         match decode(word) {
-            Some(instr) => self.run_fast(lines, supplied, word, SIZE, instr),
+            Some(instr) => self.run_shortly(lines, supplied, word, SIZE, instr),
             None => self.trap(word, 2, word),
         }
     }
