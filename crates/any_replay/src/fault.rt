@@ -1,8 +1,9 @@
 //! What is wrong with a record.
 ghost use Rattle.std.specs.Prelude.{◌≡◌, IsTrue};
-ghost use Rattle.std.specs.Option.{option_or};
+ghost use Rattle.std.specs.Option.{option_map, option_or};
 ghost use Rattle.any_machine.specs.Replay as model;
 ghost use Rattle.any_machine.specs.Held.{halt_fault, wait_fault, held_fault};
+ghost use Rattle.any_machine.specs.Replay.{fault_at};
 ghost use Rattle.any_replay.specs.Standing.{held_of};
 
 use crate::standing::{Standing, wait};
@@ -23,19 +24,31 @@ fn is_after_power(steps: u32, status: u8, item: &Record) -> bool
     }
 }
 
-// The fault of a record whose steps are not all done, or which does not follow the power store of the last one.
-fn halted(steps: u32, power: Option<u8>, wait: Option<Why>, item: &Record) -> Option<Diverged>
-    ensures { result ≡ halt_fault steps power wait item.now }
+// The fault of a record whose steps are not all done, or which does not follow the power store of the last one. What the
+// step to come needs is asked only where that step is missing.
+fn halted<H: Hart>(standing: &Standing<H>, item: &Record) -> Option<Diverged>
+    ensures { result ≡ halt_fault (H.done standing.now.hart) standing.now.power
+        (wait_fault H.machine (held_of H.done standing.now)) item.now }
 {
-    match (power, wait) {
-        (Some(status), _) if is_after_power(steps, status, item) => None,
-        (Some(_), _) => Some(Diverged {
-            step: steps.saturating_sub(1),
+    let step = standing.hart.steps();
+    match standing.power {
+        Some(status) if is_after_power(step, status, item) => None,
+        Some(_) => Some(Diverged {
+            step: step.saturating_sub(1),
             why: Why::EndsElsewhere,
         }),
-        (None, Some(why)) if steps < number(item) => Some(Diverged { step: steps, why }),
-        (None, _) => None,
+        None if step < number(item) => missing(standing),
+        None => None,
     }
+}
+
+// Why the step to come is missing.
+fn missing<H: Hart>(standing: &Standing<H>) -> Option<Diverged>
+    ensures { result ≡ option_map (fault_at (H.done standing.now.hart))
+        (wait_fault H.machine (held_of H.done standing.now)) }
+{
+    let step = standing.hart.steps();
+    wait(standing).map(|why| Diverged { step, why })
 }
 
 // Whether an end agrees with the last step.
@@ -94,7 +107,7 @@ pub fn fault<H: Hart>(standing: &Standing<H>, item: &Record) -> Option<Diverged>
     ensures { (start : H) → H.ram_size start ≡ H.ram_size standing.now.hart
         → result ≡ held_fault H.machine start item.now (held_of H.done standing.now) }
 {
-    match halted(standing.hart.steps(), standing.power, wait(standing), item) {
+    match halted(standing, item) {
         Some(fault) => Some(fault),
         None => own_fault(standing, item),
     }

@@ -5,17 +5,9 @@ ghost use Rattle.any_machine.specs.Held.{run_held, run_shown};
 ghost use Rattle.any_machine.specs.Running.{RunSoFar};
 ghost use Rattle.any_replay.specs.Standing.{held_of, SeesMore};
 
-use crate::standing::{Standing, step};
+use crate::standing::{Standing, step, wait};
 use any_machine::Hart;
-use run_events::{Event, Watcher};
-
-// What stands where no step was done yet.
-const NOTHING: Event = Event::Irq {
-    step: 0,
-    pc: 0,
-    cause: 0,
-    next: 0,
-};
+use run_events::Watcher;
 
 // Does the steps below a number that the hart does fast, where no value waits for the step to come.
 fn run_unfed<H: Hart, W: Watcher>(standing: &mut Standing<H>, number: u32, seen: &mut W)
@@ -48,15 +40,14 @@ pub fn run_to<H: Hart, W: Watcher>(standing: &mut Standing<H>, number: u32, seen
     ensures size { W.ram_kib seen.new ≡ W.ram_kib seen.old }
     ensures made { W.make seen.new ≡ W.make seen.old }
 {
-    let mut event = NOTHING;
     'turns: while standing.power.is_none() {
         run_unfed(standing, number, seen);
         if standing.hart.steps() >= number {
             return;
         }
-        if !step(standing, &mut event) {
+        if wait(standing).is_some() {
             return;
         }
-        seen.see(&event);
+        step(standing, seen);
     }
 }

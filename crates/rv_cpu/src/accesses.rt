@@ -132,6 +132,7 @@ impl Engine {
     }
 
     // Loads what a device register supplied; where there is none, it is exception 5.
+    #[inline(always)]
     fn load_device(
         &mut self,
         supplied: Option<Supplied>,
@@ -164,18 +165,23 @@ impl Engine {
     }
 
     /// Loads from RAM or from a device register. A misaligned address is exception 4, another one exception 5.
+    #[inline(always)]
     pub fn load(
         &mut self,
         supplied: Option<Supplied>,
         size: u32,
         op: LoadOp,
         rd: u32,
-        address: u32,
+        rs1: u32,
+        offset: u32,
     ) -> Done
-        requires { IsRegister rd }
+        requires rd { IsRegister rd }
+        requires rs1 { IsRegister rs1 }
         ensures { at size result self.new
-            ≡ midway self.old (model.loading self.old supplied size op rd address) }
+            ≡ midway self.old
+            (model.loading self.old supplied size op rd (sum (register self.old rs1) offset)) }
     {
+        let address = self.register(rs1).wrapping_add(offset);
         let width = alu::load_width(op);
         if !is_aligned(address, width) {
             Done::Raised {
@@ -255,6 +261,7 @@ impl Engine {
     }
 
     // Stores to a device register; where there is none, it is exception 7.
+    #[inline(always)]
     fn store_device(&mut self, size: u32, op: StoreOp, value: u32, address: u32) -> Done
         ensures { at size result self.new
             ≡ midway self.old
@@ -281,10 +288,17 @@ impl Engine {
     }
 
     /// Stores to RAM or to a device register. A misaligned address is exception 6, another one exception 7.
-    pub fn store(&mut self, size: u32, op: StoreOp, value: u32, address: u32) -> Done
+    #[inline(always)]
+    pub fn store(&mut self, size: u32, op: StoreOp, rs2: u32, rs1: u32, offset: u32) -> Done
+        requires rs2 { IsRegister rs2 }
+        requires rs1 { IsRegister rs1 }
         ensures { at size result self.new
-            ≡ midway self.old (model.storing self.old size op value address) }
+            ≡ midway self.old
+            (model.storing self.old size op (register self.old rs2)
+            (sum (register self.old rs1) offset)) }
     {
+        let address = self.register(rs1).wrapping_add(offset);
+        let value = self.register(rs2);
         let width = alu::store_width(op);
         if !is_aligned(address, width) {
             Done::Raised {

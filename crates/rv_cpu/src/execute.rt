@@ -43,12 +43,10 @@ impl Engine {
                 self.branch(size, taken, self.pc.wrapping_add(imm.cast_unsigned()))
             }
             Instr::Load { op, rd, rs1, imm } => {
-                let address = self.register(rs1).wrapping_add(imm.cast_unsigned());
-                self.load(supplied, size, op, rd, address)
+                self.load(supplied, size, op, rd, rs1, imm.cast_unsigned())
             }
             Instr::Store { op, rs1, rs2, imm } => {
-                let address = self.register(rs1).wrapping_add(imm.cast_unsigned());
-                self.store(size, op, self.register(rs2), address)
+                self.store(size, op, rs2, rs1, imm.cast_unsigned())
             }
             Instr::OpImm { op, rd, rs1, imm } => {
                 self.write(size, rd, self.immediate(op, rs1, imm.cast_unsigned()))

@@ -1,16 +1,19 @@
 //! One step.
 ghost use Rattle.memory_map.specs.declared.TheConstants.{MOST_STEPS};
 ghost use Rattle.std.specs.Prelude.{◌≡◌, ℕ, ◌+◌, ◌<◌, true, None, Some, IsTrue};
-ghost use Rattle.rv_decode.specs.Valid.{IsValid};
+ghost use Rattle.rv_decode.specs.Valid.{IsRegister, IsValid};
 ghost use Rattle.hart_model.specs.Machine.{holds_word};
+ghost use Rattle.hart_model.specs.Effect as model;
+ghost use Rattle.hart_model.specs.Operations.{sum};
+ghost use Rattle.hart_model.specs.State.{register};
 ghost use Rattle.hart_model.specs.Step.{cpu, outcome, step_by, trapped, interrupted, touch};
-ghost use Rattle.rv_cpu.specs.Midway.{Goes, ended};
+ghost use Rattle.rv_cpu.specs.Midway.{Goes, IsLeft, at, closed, ended};
 
 use crate::atomics::is_reserved;
 use crate::done::Done;
 use crate::engine::Engine;
 use run_events::{Access, Event, Supplied, Told};
-use rv_decode::{Instr, decode};
+use rv_decode::{Instr, LoadOp, StoreOp, decode};
 
 /// The bytes of an instruction.
 pub const SIZE: u32 = 4;
@@ -75,7 +78,25 @@ impl Engine {
         }
     }
 
-    // Does the step of an instruction.
+    // Ends a step whose instruction has left this, where x10 to x12 held `told` before it.
+    #[inline(always)]
+    fn conclude(&mut self, word: u32, size: u32, told: Told, done: Done) -> Event
+        requires room { self.old.step < MOST_STEPS }
+        requires left { IsLeft done }
+        ensures { closed told word (at size done self.old) ≡ Some (result, self.new) }
+    {
+        match done {
+            Done::Quiet { result, next } => self.end(word, told, result, next, Access::Quiet),
+            Done::Accessed { result, access } => {
+                let next = self.next(size);
+                self.end(word, told, result, next, access)
+            }
+            Done::Raised { cause, value } => self.trap(word, cause, value),
+            Done::Other => unreachable!(),
+        }
+    }
+
+    // Does the step of an instruction, of any kind.
     fn run(
         &mut self,
         lines: u8,
@@ -90,14 +111,82 @@ impl Engine {
             ≡ (result, self.new) }
     {
         let told = self.told();
-        match self.execute(lines, supplied, word, size, instr) {
-            Done::Quiet { result, next } => self.end(word, told, result, next, Access::Quiet),
-            Done::Accessed { result, access } => {
-                let next = self.next(size);
-                self.end(word, told, result, next, access)
+        let done = self.execute(lines, supplied, word, size, instr);
+        self.conclude(word, size, told, done)
+    }
+
+    // Does the step of a load.
+    #[inline(always)]
+    fn run_load(
+        &mut self,
+        supplied: Option<Supplied>,
+        word: u32,
+        size: u32,
+        op: LoadOp,
+        rd: u32,
+        rs1: u32,
+        offset: u32,
+    ) -> Event
+        requires rd { IsRegister rd }
+        requires rs1 { IsRegister rs1 }
+        requires room { self.old.step < MOST_STEPS }
+        ensures { step_by self.old word
+            (model.loading self.old supplied size op rd (sum (register self.old rs1) offset))
+            ≡ (result, self.new) }
+    {
+        let told = self.told();
+        let done = self.load(supplied, size, op, rd, rs1, offset);
+        self.conclude(word, size, told, done)
+    }
+
+    // Does the step of a store.
+    #[inline(always)]
+    fn run_store(
+        &mut self,
+        word: u32,
+        size: u32,
+        op: StoreOp,
+        rs2: u32,
+        rs1: u32,
+        offset: u32,
+    ) -> Event
+        requires rs2 { IsRegister rs2 }
+        requires rs1 { IsRegister rs1 }
+        requires room { self.old.step < MOST_STEPS }
+        ensures { step_by self.old word
+            (model.storing self.old size op (register self.old rs2)
+            (sum (register self.old rs1) offset))
+            ≡ (result, self.new) }
+    {
+        let told = self.told();
+        let done = self.store(size, op, rs2, rs1, offset);
+        self.conclude(word, size, told, done)
+    }
+
+    // Does the step of an instruction. Loads and stores are done right here: guests that wait for devices are full of them.
+    #[tactic(auto, unfolding(hart_model::specs::Step::outcome))]
+    #[inline(always)]
+    fn run_shortly(
+        &mut self,
+        lines: u8,
+        supplied: Option<Supplied>,
+        word: u32,
+        size: u32,
+        instr: Instr,
+    ) -> Event
+        requires valid { IsValid instr }
+        requires room { self.old.step < MOST_STEPS }
+        ensures { step_by self.old word (outcome self.old lines supplied word size instr)
+            ≡ (result, self.new) }
+    {
+        match instr {
+            Instr::Load { op, rd, rs1, imm } => {
+                self.run_load(supplied, word, size, op, rd, rs1, imm.cast_unsigned())
             }
-            Done::Raised { cause, value } => self.trap(word, cause, value),
-            Done::Other => unreachable!(),
+            Instr::Store { op, rs1, rs2, imm } => {
+                self.run_store(word, size, op, rs2, rs1, imm.cast_unsigned())
+            }
+            _ => self.run(lines, supplied, word, size, instr),
         }
     }
 
@@ -115,7 +204,7 @@ impl Engine {
         }
         let word = self.ram.load(self.pc, SIZE);
         match decode(word) {
-            Some(instr) => self.run(lines, supplied, word, SIZE, instr),
+            Some(instr) => self.run_shortly(lines, supplied, word, SIZE, instr),
             None => self.trap(word, 2, word),
         }
     }

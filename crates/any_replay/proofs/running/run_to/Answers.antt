@@ -1,4 +1,5 @@
-use Rattle.std.proofs.Common.{◌*◌, not, is_some, sym, ap, ◌∙◌, arith}
+use Rattle.std.proofs.Common.{not, is_some, refl, sym, ap, ◌∙◌, arith}
+use Rattle.any_machine.specs.Held.{held_event}
 use Rattle.any_machine.proofs.RunningLaws.{loop_next, loop_joins}
 use Rattle.any_replay.specs.Standing.{held_of}
 use Rattle.any_replay.proofs.RunLaws.{RunEnds, loop_done, loop_off, loop_waits, may_by}
@@ -21,38 +22,34 @@ pub returns-then-steps-number-clause-shown : goal.returns-then-steps-number-clau
 returns-then-steps-number-clause-shown g c = (done g c).shown
 
 -- the step to come cannot be done
-waits : (g : Over) (c : goal.Then-not-step g)
+waits : (g : Over) (c : goal.Then-is_some g)
     → RunEnds g.H.Hart.machine c.args.number (held_of g.H.Hart.done c.args.standing.now) (held_of g.H.Hart.done c.run_unfed.new.standing) (g.W.Watcher.has_seen c.args.seen.now) (g.W.Watcher.has_seen c.run_unfed.new.seen)
 waits g c =
     loop_waits g.H.Hart.machine c.args.number (held_of g.H.Hart.done c.args.standing.now) (held_of g.H.Hart.done c.run_unfed.new.standing) (g.W.Watcher.has_seen c.args.seen.now) (g.W.Watcher.has_seen c.run_unfed.new.seen)
     (loop_joins g.H.Hart.machine c.args.number (held_of g.H.Hart.done c.args.standing.now) (held_of g.H.Hart.done c.turns.standing) (held_of g.H.Hart.done c.run_unfed.new.standing)
     (g.W.Watcher.has_seen c.args.seen.now) (g.W.Watcher.has_seen c.turns.seen) (g.W.Watcher.has_seen c.run_unfed.new.seen) c.turns.invariant.so_far c.run_unfed.ensures.runs)
-    (sym c.step.ensures.answer ∙ c.if-not-step.true)
+    (ap not (ap is_some (sym c.wait.ensures) ∙ sym c.is_some.ensures ∙ c.if-is_some.true))
 
-pub returns-then-not-step-clause-held : goal.returns-then-not-step-clause-held
-returns-then-not-step-clause-held g c = ap (held_of g.H.Hart.done) (c.step.ensures.stays c.if-not-step.true) ∙ (waits g c).held
+pub returns-then-is_some-clause-held : goal.returns-then-is_some-clause-held
+returns-then-is_some-clause-held g c = (waits g c).held
 
-pub returns-then-not-step-clause-shown : goal.returns-then-not-step-clause-shown
-returns-then-not-step-clause-shown g c = (waits g c).shown
-
-pub see-requires : goal.see-requires
-see-requires g c =
-    c.step.ensures.fits (g.W.Watcher.ram_kib c.run_unfed.new.seen) c.if-not-step.false
-    (c.run_unfed.ensures.ram ∙ c.turns.invariant.ram ∙ c.requires.size ∙ ap (λ k. 1024 * k) (sym (c.run_unfed.ensures.size ∙ c.turns.invariant.size)))
+pub returns-then-is_some-clause-shown : goal.returns-then-is_some-clause-shown
+returns-then-is_some-clause-shown g c = (waits g c).shown
 
 pub turns-preserved : goal.turns-preserved
 turns-preserved g c = record {
   so_far =
-      loop_next g.H.Hart.machine c.args.number (held_of g.H.Hart.done c.args.standing.now) (held_of g.H.Hart.done c.run_unfed.new.standing) (held_of g.H.Hart.done c.step.new.standing) c.step.new.event
-      (g.W.Watcher.has_seen c.args.seen.now) (g.W.Watcher.has_seen c.run_unfed.new.seen) (g.W.Watcher.has_seen c.see.new.self)
+      loop_next g.H.Hart.machine c.args.number (held_of g.H.Hart.done c.args.standing.now) (held_of g.H.Hart.done c.run_unfed.new.standing) (held_of g.H.Hart.done c.step.new.standing)
+      (held_event g.H.Hart.machine (held_of g.H.Hart.done c.run_unfed.new.standing))
+      (g.W.Watcher.has_seen c.args.seen.now) (g.W.Watcher.has_seen c.run_unfed.new.seen) (g.W.Watcher.has_seen c.step.new.seen)
       (loop_joins g.H.Hart.machine c.args.number (held_of g.H.Hart.done c.args.standing.now) (held_of g.H.Hart.done c.turns.standing) (held_of g.H.Hart.done c.run_unfed.new.standing)
       (g.W.Watcher.has_seen c.args.seen.now) (g.W.Watcher.has_seen c.turns.seen) (g.W.Watcher.has_seen c.run_unfed.new.seen) c.turns.invariant.so_far c.run_unfed.ensures.runs)
       (omega (arith, c.steps.ensures, c.if-steps-number.false))
-      (may_by g.H.Hart.machine c.args.number (held_of g.H.Hart.done c.run_unfed.new.standing) (ap is_some c.run_unfed.ensures.power) (sym c.step.ensures.answer ∙ c.if-not-step.false))
-      (c.step.ensures.does c.if-not-step.false) (c.step.ensures.shows c.if-not-step.false) c.see.ensures.seen;
-  ram = c.step.ensures.size ∙ c.run_unfed.ensures.ram ∙ c.turns.invariant.ram;
-  size = c.see.ensures.size ∙ c.run_unfed.ensures.size ∙ c.turns.invariant.size;
-  made = c.see.ensures.made ∙ c.run_unfed.ensures.made ∙ c.turns.invariant.made;
+      (may_by g.H.Hart.machine c.args.number (held_of g.H.Hart.done c.run_unfed.new.standing) (ap is_some c.run_unfed.ensures.power) (ap not (ap is_some (sym c.wait.ensures) ∙ sym c.is_some.ensures ∙ c.if-is_some.false)))
+      c.step.ensures.held refl c.step.ensures.shown;
+  ram = c.step.ensures.ram ∙ c.run_unfed.ensures.ram ∙ c.turns.invariant.ram;
+  size = c.step.ensures.size ∙ c.run_unfed.ensures.size ∙ c.turns.invariant.size;
+  made = c.step.ensures.made ∙ c.run_unfed.ensures.made ∙ c.turns.invariant.made;
 }
 
 -- a power store ended the run
