@@ -1,3 +1,4 @@
+mod EnterLaws
 pub mod PlainLaws
 mod RingLaws
 mod StackLaws

@@ -1,22 +1,25 @@
 //! The analysis of calls and returns.
 ghost use Rattle.memory_map.specs.declared.TheConstants.{LEAST_RAM_KIB, MOST_RAM_KIB};
 ghost use Rattle.std.specs.Prelude.{◌≡◌, ℕ, ◌+◌, ◌*◌, ◌^◌, ◌<◌, ◌≤◌, IsTrue, false, List, [], ◌∷◌, ◌++◌, length, Option, IfOk};
+ghost use Rattle.run_events.specs.declared.access.Told.{Told as Arguments};
 ghost use Rattle.run_events.specs.declared.event.Event.{Event};
 ghost use Rattle.run_events.specs.declared.finding.Kind.TheVariants as kind;
 ghost use Rattle.run_events.specs.Announcement.{announced_by};
 ghost use Rattle.run_events.specs.Event.{Fits, IsWordInRam};
+ghost use Rattle.rv_decode.specs.Listing.{instruction};
+ghost use Rattle.analysis_model.specs.Calls.{link_as};
 ghost use Rattle.analysis_model.specs.Complaints.{findings};
 ghost use Rattle.analysis_model.specs.Context.{entered};
 ghost use Rattle.analysis_model.specs.Findings.{first_step, tally, kept};
 ghost use Rattle.analysis_model.specs.Made.{make_of};
 ghost use Rattle.call_stacks.specs.Stacks.{Stacks, Stands, make_now, guest_now, unmatched_in, pushed, popped, front_of, judged, returned, moved, in_context, after};
 
-use crate::moves::link_of_word;
+use crate::moves::{link_of_word, may_link};
 use crate::rings::{Frames, empty_rings};
 use elf_image::Image;
 use finding_tally::Tally;
 use memory_map::{NoMemory, SharedByThreads};
-use run_events::{Announcement, Event, Finding, FindingKind, Told, Watcher};
+use run_events::{Announcement, Event, Finding, FindingKind, Told, Watcher, may_announce};
 use rv_decode::Link;
 use std::alloc::Global;
 use std::marker::Model;
@@ -63,7 +66,8 @@ impl Watcher for Calls {
 
     #[inline(always)]
     fn try_see(&mut self, event: &Event) -> bool {
-        self.take_quiet(event)
+        self.take_in(event);
+        true
     }
 }
 
@@ -121,31 +125,9 @@ impl Calls {
         self.unmatched
     }
 
-    // Takes in an event that announces nothing, as nearly each; of another one, nothing.
+    // Takes in an event. Nearly each is an instruction that does nothing to the return addresses and announces nothing, as
+    // two compares tell.
     #[inline(always)]
-    fn take_quiet(&mut self, event: &Event) -> bool
-        requires { Fits self.old.ram_kib event.now }
-        ensures takes { IsTrue result → self.new ≡ after self.old event.now }
-        ensures same { result ≡ false → self.new ≡ self.old }
-    {
-        let Event::Exec {
-            step,
-            pc,
-            word,
-            next,
-            told,
-            ..
-        } = event
-        else {
-            return true;
-        };
-        if Announcement::of(*word, *told).is_some() {
-            return false;
-        }
-        self.follow(link_of_word(*word), *step, *pc, *next);
-        true
-    }
-
     fn take_in(&mut self, event: &Event)
         requires { Fits self.old.ram_kib event.now }
         ensures { self.new ≡ after self.old event.now }
@@ -157,20 +139,24 @@ impl Calls {
             next,
             told,
             ..
-        } = *event
+        } = event
         {
-            self.follow(link_of_word(word), step, pc, next);
-            self.enter(word, told);
+            if may_link(*word) {
+                self.follow(*word, *step, *pc, *next);
+            }
+            if may_announce(*word) {
+                self.enter_first(*word, told.a0);
+            }
         }
     }
 
-    // Does what an instruction at `pc` does to the return addresses.
-    #[inline(always)]
-    fn follow(&mut self, link: Link, step: u32, pc: u32, next: u32)
+    // Does what the instruction `word` at `pc` does to the return addresses.
+    #[inline(never)]
+    fn follow(&mut self, word: u32, step: u32, pc: u32, next: u32)
         requires { IsWordInRam self.old.ram_kib pc }
-        ensures { self.new ≡ moved self.old link step pc next }
+        ensures { self.new ≡ moved self.old (link_as (instruction word)) step pc next }
     {
-        match link {
+        match link_of_word(word) {
             Link::Plain => {}
             Link::Push => self.push(pc),
             Link::Pop => self.pop(step, pc, next),
@@ -182,7 +168,7 @@ impl Calls {
     }
 
     // The call at `pc` returns to the instruction after it.
-    #[inline(never)]
+    #[inline(always)]
     fn push(&mut self, pc: u32)
         requires { IsWordInRam self.old.ram_kib pc }
         ensures { self.new ≡ pushed self.old (pc + 4) }
@@ -191,7 +177,7 @@ impl Calls {
         let _dropped = frames.push_front(pc + 4);
     }
 
-    #[inline(never)]
+    #[inline(always)]
     fn pop(&mut self, step: u32, pc: u32, next: u32)
         ensures { self.new ≡ returned self.old step pc next }
     {
@@ -223,6 +209,21 @@ impl Calls {
                 }
             }
         }
+    }
+
+    // Of the three arguments that may be told, the first one alone matters.
+    #[tactic(auto, using(crate::proofs::EnterLaws::entered_by_first))]
+    #[inline(never)]
+    fn enter_first(&mut self, word: u32, first: u32)
+        ensures { (told : Arguments) → told.a0 ≡ first →
+            self.new ≡ in_context self.old (entered (announced_by word told)) }
+    {
+        let told = Told {
+            a0: first,
+            a1: 0,
+            a2: 0,
+        };
+        self.enter(word, told);
     }
 
     fn enter(&mut self, word: u32, told: Told)

@@ -1,6 +1,7 @@
 mod AreaLaws
 mod AscendingLaws
 pub mod ExecutedLaws
+mod KnownLaws
 mod MarkLaws
 mod PlaceLaws
 mod RangeLaws

@@ -1,5 +1,5 @@
 -- What coverage keeps, what it stands for, and what it tells.
-use Rattle.std.specs.Prelude.{◌≡◌, ℕ, ◌+◌, ◌-◌, ◌*◌, ◌/◌, Bool, true, ◌&&◌, nat_le, nat_lt, List, [], ◌∷◌, length, slice_set, if◌then◌else◌}
+use Rattle.std.specs.Prelude.{◌≡◌, ℕ, ◌+◌, ◌-◌, ◌*◌, ◌/◌, Bool, true, false, ◌&&◌, nat_le, nat_lt, List, [], ◌∷◌, length, slice_index_or, slice_set, if◌then◌else◌}
 use Rattle.memory_map.specs.declared.TheConstants.{RAM_START}
 use Rattle.run_events.specs.declared.event.Event.{Event}
 use Rattle.run_events.specs.declared.event.Event.TheVariants.{Dma, Irq, Trap, Exec}
@@ -26,9 +26,12 @@ abbrev pub area_numbers : List Area → List ℕ
 area_numbers [] = []
 area_numbers (area ∷ areas) = area.address ∷ area.size ∷ area_numbers areas
 
--- a range whose addresses are all code
-abbrev pub IsCode : Area → List Area → Type 0
-IsCode area code = (pc : ℕ) → holds area pc ≡ true → is_within (ranges_made_of (area_numbers code)) pc ≡ true
+-- the words that are known to be executed, and to be code
+abbrev pub AreKnown : List Bool → List Bool → List Area → Type 0
+AreKnown known marks code =
+    (place : ℕ)
+    → slice_index_or known place false ≡ true
+    → (slice_index_or marks place false ≡ true) × (is_within (ranges_made_of (area_numbers code)) (RAM_START + 4 * place) ≡ true)
 
 -- what it was made of
 abbrev pub make_now : Covered → List ℕ

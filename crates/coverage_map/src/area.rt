@@ -2,7 +2,7 @@
 ghost use Rattle.std.specs.Prelude.{◌≡◌, IfOk};
 ghost use Rattle.analysis_model.specs.Cover.{is_within};
 ghost use Rattle.analysis_model.specs.Made.{code_numbers, ranges_made_of};
-ghost use Rattle.coverage_map.specs.Coverage.{IsCode, area_numbers, holds};
+ghost use Rattle.coverage_map.specs.Coverage.{area_numbers, holds};
 
 use elf_image::Segment;
 use memory_map::NoMemory;
@@ -16,26 +16,11 @@ pub struct Area {
 }
 
 impl Area {
-    /// Whether it has this address.
-    #[inline(always)]
-    pub fn holds(&self, pc: u32) -> bool
+    // Whether it has this address.
+    fn holds(&self, pc: u32) -> bool
         ensures { result ≡ holds self.now pc }
     {
         self.address <= pc && pc - self.address < self.size
-    }
-}
-
-/// A range of addresses that are all code: the first one, where nearly all instructions are. It is empty where there is no
-/// code.
-pub fn main_of(code: &[Area]) -> Area
-    ensures { IsCode result code.now }
-{
-    match code.first() {
-        Some(area) => *area,
-        None => Area {
-            address: 0,
-            size: 0,
-        },
     }
 }
 

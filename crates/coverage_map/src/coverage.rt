@@ -1,6 +1,6 @@
 //! Coverage: marks a word of RAM, and findings.
-ghost use Rattle.memory_map.specs.declared.TheConstants.{LEAST_RAM_KIB, MOST_RAM_KIB};
-ghost use Rattle.std.specs.Prelude.{◌≡◌, ℕ, false, IsTrue, ◌*◌, ◌<◌, ◌≤◌, List, [], ◌∷◌, ◌++◌, length, slice_get, IfOk};
+ghost use Rattle.memory_map.specs.declared.TheConstants.{LEAST_RAM_KIB, MOST_RAM_KIB, RAM_START};
+ghost use Rattle.std.specs.Prelude.{◌≡◌, ℕ, true, ◌-◌, ◌/◌, ◌*◌, ◌<◌, ◌≤◌, List, [], ◌∷◌, ◌++◌, length, slice_get, IfOk};
 ghost use Rattle.run_events.specs.declared.event.Event.{Event};
 ghost use Rattle.run_events.specs.declared.finding.Kind.TheVariants as kind;
 ghost use Rattle.run_events.specs.Event.{Fits, IsWordInRam};
@@ -8,10 +8,10 @@ ghost use Rattle.analysis_model.specs.Complaints.{findings};
 ghost use Rattle.analysis_model.specs.Cover.{executed_pcs, executed_ranges, is_within};
 ghost use Rattle.analysis_model.specs.Findings.{first_step, tally, kept};
 ghost use Rattle.analysis_model.specs.Made.{make_of, ranges_made_of};
-ghost use Rattle.coverage_map.specs.Coverage.{Covered, IsCode, Stands, area_numbers, make_now, guest_now, pcs_now, ranges_now, with_mark, with_outside, after};
+ghost use Rattle.coverage_map.specs.Coverage.{Covered, AreKnown, Stands, area_numbers, make_now, guest_now, pcs_now, ranges_now, with_mark, with_outside, after};
 ghost use Rattle.coverage_map.specs.Executed.{AreExecuted};
 
-use crate::area::{Area, code_of, is_code, main_of};
+use crate::area::{Area, code_of, is_code};
 use crate::ranges::{count_marks, count_ranges, find_range};
 use elf_image::Image;
 use finding_tally::Tally;
@@ -25,13 +25,22 @@ use std::marker::Model;
 pub struct Coverage {
     ram_kib: u32,
     code: Vec<Area>,
-    // a range of it, which is looked at first
-    main: Area,
     marks: Vec<bool>,
+    // the marked words of the code, at which there is nothing more to do
+    known: Vec<bool>,
     found: Tally,
 }
 
 impl SharedByThreads for Coverage {}
+
+// The place of the mark of the word at this address.
+#[inline(always)]
+fn place_of(pc: u32) -> usize
+    requires { RAM_START ≤ pc }
+    ensures { result ≡ (pc - RAM_START) / 4 }
+{
+    (pc - RAM_START) as usize / 4
+}
 
 impl Model for Coverage {
     ghost Value = { Covered };
@@ -45,7 +54,8 @@ impl Model for Coverage {
 
     ghost invariant = { λ c. (c.ram_kib ≤ MOST_RAM_KIB)
         × (length c.marks.items ≡ 256 * c.ram_kib)
-        × IsCode c.main c.code.items };
+        × (length c.known.items ≡ 256 * c.ram_kib)
+        × AreKnown c.known.items c.marks.items c.code.items };
 }
 
 impl Watcher for Coverage {
@@ -62,7 +72,8 @@ impl Watcher for Coverage {
 
     #[inline(always)]
     fn try_see(&mut self, event: &Event) -> bool {
-        self.take_covered(event)
+        self.take_in(event);
+        true
     }
 }
 
@@ -76,13 +87,13 @@ impl Coverage {
         ensures made { IfOk result (λ c. make_now c ≡ make_of kind.Cover image.now) }
     {
         let code = code_of(alloc, &image.segments)?;
-        let main = main_of(&code);
         let marks = vec![in alloc; false; 256 * ram_kib as usize]?;
+        let known = vec![in alloc; false; 256 * ram_kib as usize]?;
         Ok(Coverage {
             ram_kib,
             code,
-            main,
             marks,
+            known,
             found: Tally::new(),
         })
     }
@@ -146,58 +157,60 @@ impl Coverage {
         find_range(&self.marks, index)
     }
 
-    // Takes in an instruction of the guest's code, as nearly each is; of another event, nothing.
+    // Takes in an event. At nearly each there is nothing to do, as one look tells.
     #[inline(always)]
-    fn take_covered(&mut self, event: &Event) -> bool
-        requires { Fits self.old.ram_kib event.now }
-        ensures takes { IsTrue result → self.new ≡ after self.old event.now }
-        ensures same { result ≡ false → self.new ≡ self.old }
-    {
-        let Event::Exec { pc, .. } = event else {
-            return false;
-        };
-        if !self.has_code_at(*pc) {
-            return false;
-        }
-        self.mark(*pc);
-        true
-    }
-
-    // Whether an address is code.
-    #[inline(always)]
-    fn has_code_at(&self, pc: u32) -> bool
-        ensures { result ≡ is_within (ranges_made_of (area_numbers self.now.code)) pc }
-    {
-        self.main.holds(pc) || is_code(&self.code, pc)
-    }
-
     fn take_in(&mut self, event: &Event)
         requires { Fits self.old.ram_kib event.now }
         ensures { self.new ≡ after self.old event.now }
     {
-        match *event {
+        match event {
             Event::Exec { step, pc, .. } => {
-                self.mark(pc);
-                self.look_at(step, pc);
+                if !self.is_known(*pc) {
+                    self.execute(*step, *pc);
+                }
             }
-            Event::Trap { step, pc, .. } => self.look_at(step, pc),
+            Event::Trap { step, pc, .. } => self.look_at(*step, *pc),
             Event::Dma { .. } | Event::Irq { .. } => {}
         }
     }
 
+    // Whether the word at this pc was executed before, and is code.
+    #[tactic(auto, using(crate::proofs::KnownLaws::known_marks))]
     #[inline(always)]
+    fn is_known(&self, pc: u32) -> bool
+        requires { IsWordInRam self.now.ram_kib pc }
+        ensures marked { result ≡ true → with_mark self.now pc ≡ self.now }
+        ensures code { result ≡ true →
+            is_within (ranges_made_of (area_numbers self.now.code)) pc ≡ true }
+    {
+        self.known[place_of(pc)]
+    }
+
+    #[inline(never)]
+    fn execute(&mut self, step: u32, pc: u32)
+        requires { IsWordInRam self.old.ram_kib pc }
+        ensures { self.new ≡ with_outside (with_mark self.old pc) step pc }
+    {
+        self.mark(pc);
+        self.look_at(step, pc);
+    }
+
     fn mark(&mut self, pc: u32)
         requires { IsWordInRam self.old.ram_kib pc }
         ensures { self.new ≡ with_mark self.old pc }
     {
-        let place = (pc - RAM_START) as usize / 4;
+        let place = place_of(pc);
         self.marks[place] = true;
+        if is_code(&self.code, pc) {
+            self.known[place] = true;
+        }
     }
 
+    #[inline(never)]
     fn look_at(&mut self, step: u32, pc: u32)
         ensures { self.new ≡ with_outside self.old step pc }
     {
-        if !self.has_code_at(pc) {
+        if !is_code(&self.code, pc) {
             self.found.add(Finding {
                 step,
                 pc,

@@ -22,7 +22,7 @@ use crate::lock::{Lock, holder_of, is_held_by, is_known, place_of, set_holder};
 use elf_image::Image;
 use finding_tally::Tally;
 use memory_map::{NoMemory, SharedByThreads};
-use run_events::{Access, Announcement, Event, Finding, FindingKind, Watcher};
+use run_events::{Access, Announcement, Event, Finding, FindingKind, Watcher, may_announce};
 use shadow_state::Shadow;
 use std::alloc::Global;
 use std::marker::Model;
@@ -149,12 +149,7 @@ impl Locks {
         ensures { result ≡ true → after self.now event.now ≡ self.now }
     {
         match event {
-            Event::Exec {
-                word,
-                access,
-                told,
-                ..
-            } => Announcement::of(*word, *told).is_none() && self.allows(access),
+            Event::Exec { word, access, .. } => !may_announce(*word) && self.allows(access),
             Event::Dma { .. } | Event::Irq { .. } | Event::Trap { .. } => true,
         }
     }
@@ -190,7 +185,7 @@ impl Locks {
             → least_from (is_open self.now.locks self.now.context self.now.guards) address width
             ≡ None }
     {
-        self.guarded.is_clear(address, GUARDED)
+        self.guarded.has_four_clear(address, GUARDED)
     }
 
     #[inline(never)]

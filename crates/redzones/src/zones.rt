@@ -17,7 +17,7 @@ ghost use Rattle.redzones.specs.Zones.{Zones, Stands, make_now, guest_now, use_i
 use elf_image::Image;
 use finding_tally::Tally;
 use memory_map::{NoMemory, SharedByThreads};
-use run_events::{Access, Announcement, Event, Finding, FindingKind, Watcher};
+use run_events::{Access, Announcement, Event, Finding, FindingKind, Watcher, may_announce};
 use shadow_state::Shadow;
 use std::alloc::Global;
 use std::marker::Model;
@@ -143,12 +143,7 @@ impl Redzones {
         ensures { result ≡ true → after self.now event.now ≡ self.now }
     {
         match event {
-            Event::Exec {
-                word,
-                access,
-                told,
-                ..
-            } => Announcement::of(*word, *told).is_none() && self.allows(access),
+            Event::Exec { word, access, .. } => !may_announce(*word) && self.allows(access),
             Event::Dma { .. } | Event::Irq { .. } | Event::Trap { .. } => true,
         }
     }
@@ -175,7 +170,7 @@ impl Redzones {
         self.found.note(finding);
     }
 
-    // Whether the access touches no forbidden byte.
+    // Whether the access touches no forbidden byte: the quick test that most accesses pass. Those to devices do not.
     #[inline(always)]
     fn allows(&self, access: &Access) -> bool
         requires { AccessFits self.now.ram_kib access.now }
@@ -183,9 +178,9 @@ impl Redzones {
     {
         match *access {
             Access::Quiet => true,
-            Access::Load { device: true, .. } | Access::Store { device: true, .. } => true,
-            Access::Load { address, .. } | Access::Store { address, .. } => self.is_clear(address),
-            Access::Swap { address, .. } => self.is_clear(address),
+            Access::Load { address, .. }
+            | Access::Store { address, .. }
+            | Access::Swap { address, .. } => self.is_clear(address),
         }
     }
 
@@ -195,7 +190,7 @@ impl Redzones {
         ensures { result ≡ true → (width : ℕ) → width ≤ 4 →
             least_from (λ a. is_forbidden (use_in self.now.shade a)) address width ≡ None }
     {
-        self.shadow.is_clear(address, FORBIDDEN)
+        self.shadow.has_four_clear(address, FORBIDDEN)
     }
 
     // What there is to find at an instruction with this announcement and this access.

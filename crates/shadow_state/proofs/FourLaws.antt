@@ -1,5 +1,5 @@
 -- Four bytes of RAM, by their places and by their addresses.
-use Rattle.std.proofs.Common.{◌≡◌, ℕ, ◌+◌, ◌-◌, ◌<◌, nat_le, cond, List, take, drop, get_or, true, sym, ap, ◌∙◌, arith}
+use Rattle.std.proofs.Common.{◌≡◌, ℕ, ◌+◌, ◌-◌, ◌^◌, ◌<◌, nat_le, cond, List, take, drop, get_or, true, sym, ap, ◌∙◌, arith}
 use Rattle.std.specs.Int.Bits.{bit_and}
 use Rattle.std.proofs.lemmas.Bool.Decides.{nat_tests}
 use Rattle.std.proofs.lemmas.List.{get_or-take, get_or-drop}
@@ -12,6 +12,11 @@ in_four s place i small =
     let here : place + i ≡ RAM_START + place + i - RAM_START = omega arith in
     let from : nat_le RAM_START (RAM_START + place + i) ≡ true = grind (arith, nat_tests) in
     get_or-take 4 (drop place s.bytes) i 0 small ∙ get_or-drop place s.bytes i 0 ∙ ap (λ n. get_or s.bytes n 0) here ∙ sym (ap (λ b. cond b (get_or s.bytes (RAM_START + place + i - RAM_START) 0) 0) from)
+
+pub four_fit : (bytes : List ℕ) (place : ℕ) → ((n : ℕ) → get_or bytes n 0 < 2 ^ 8) → (i : ℕ) → i < 4 → get_or (take 4 (drop place bytes)) i 0 < 2 ^ 8
+four_fit bytes place fit i small =
+    let read : get_or (take 4 (drop place bytes)) i 0 ≡ get_or bytes (place + i) 0 = get_or-take 4 (drop place bytes) i 0 small ∙ get_or-drop place bytes i 0 in
+    omega (arith, read, fit (place + i))
 
 module _ (s : Shade) (four : List ℕ) (set address place : ℕ) (is : four ≡ take 4 (drop place s.bytes)) (at : RAM_START + place ≡ address) where
   of_four : (i : ℕ) → i < 4 → get_or four i 0 ≡ shade s (address + i)

@@ -3,3 +3,4 @@ mod FourLaws
 pub mod LeastLaws
 pub mod PaintLaws
 pub mod SizeLaws
+mod WordLaws

@@ -1,6 +1,7 @@
 //! The shadow of RAM.
 ghost use Rattle.std.specs.Prelude.{◌≡◌, ℕ, ◌+◌, ◌-◌, ◌*◌, ◌^◌, ◌<◌, ◌≤◌, true, false, min, List, [], ◌∷◌, ◌++◌, length, take, drop, replicate, slice_index, IfOk, IfSome, IfNone};
 ghost use Rattle.memory_map.specs.declared.TheConstants.{LEAST_RAM_KIB, MOST_RAM_KIB, RAM_START};
+ghost use Rattle.memory_map.specs.Ram.{InRam};
 ghost use Rattle.shadow_state.specs.Shade.{Shade, Paint, shade, has_byte, painted_from, painted, last_paint, IsPainted, IsLeast, NoneBetween};
 ghost use Rattle.shadow_state.specs.Places.{IsFirstPlace, NoPlace};
 
@@ -79,56 +80,47 @@ impl Shadow {
         }
     }
 
-    /// Whether none of the four bytes from an address on has a bit of `set`. Those outside RAM have none.
+    /// Whether the four bytes from an address on stand in RAM and none of them has a bit of `set`. It takes one compare of
+    /// the place and one of the values, for those who ask at each event.
     #[inline(always)]
-    pub fn is_clear(&self, address: u32, set: u8) -> bool
+    pub fn has_four_clear(&self, address: u32, set: u8) -> bool
+        ensures inside { result ≡ true → InRam (length self.now.bytes) address 4 }
         ensures clear { result ≡ true → NoneBetween self.now set address (address + 4) }
-        ensures marked { result ≡ false → NoneBetween self.now set address (address + 4) → ⊥ }
-        ensures bytes { (address : ℕ) → shade self.now address < 2 ^ 8 }
+        ensures bytes { result ≡ true → (address : ℕ) → shade self.now address < 2 ^ 8 }
+        ensures marked { result ≡ false
+            → InRam (length self.now.bytes) address 4
+            → NoneBetween self.now set address (address + 4)
+            → ⊥ }
     {
         // no RAM is so long that an address before it, less RAM_START, falls into it
         let place = address.wrapping_sub(RAM_START) as usize;
-        if place + 4 <= self.bytes.len() {
-            lacks(four_from(&self.bytes, place), set)
-        } else {
-            self.lacks_in_range(address, set)
-        }
-    }
-
-    // The same, of bytes that may stand outside RAM.
-    #[cold]
-    fn lacks_in_range(&self, address: u32, set: u8) -> bool
-        ensures clear { result ≡ true → NoneBetween self.now set address (address + 4) }
-        ensures marked { result ≡ false → NoneBetween self.now set address (address + 4) → ⊥ }
-        ensures bytes { (address : ℕ) → shade self.now address < 2 ^ 8 }
-    {
-        let from = u64::from(address);
-        match self.first_of(from, from + 4, set) {
-            Some(_) => false,
-            None => true,
-        }
+        place + 4 <= self.bytes.len() && lacks(four_from(&self.bytes, place), set)
     }
 }
 
 // The four bytes from a place on.
+#[tactic(auto, using(crate::proofs::FourLaws::four_fit))]
 #[inline(always)]
 fn four_from(bytes: &[u8], place: usize) -> [u8; 4]
     requires { place + 4 ≤ length bytes.now }
     ensures four { result ≡ take 4 (drop place bytes.now) }
     ensures bytes { (place : ℕ) → slice_index bytes.now place < 2 ^ 8 }
+    ensures fit { (i : ℕ) → i < 4 → slice_index result i < 2 ^ 8 }
 {
     let mut four = [0; 4];
     four.copy_from_slice(&bytes[place..place + 4]);
     four
 }
 
-// Whether none of the bytes has a bit of `set`.
+// Whether none of the bytes has a bit of `set`: all four are looked at as one word.
+#[tactic(auto, using(crate::proofs::WordLaws::lacks_clear))]
 #[inline(always)]
 fn lacks(four: [u8; 4], set: u8) -> bool
+    requires { (i : ℕ) → i < 4 → slice_index four i < 2 ^ 8 }
     ensures clear { result ≡ true → NoPlace four set 0 4 }
     ensures marked { result ≡ false → NoPlace four set 0 4 → ⊥ }
 {
-    four[0] & set == 0 && four[1] & set == 0 && four[2] & set == 0 && four[3] & set == 0
+    u32::from_le_bytes(four) & u32::from_le_bytes([set; 4]) == 0
 }
 
 // The place among `length` bytes of RAM of the first one at this address or after it, and `length` where there is none.

@@ -1,3 +1,4 @@
 mod MarkLaws
 mod CalmLaws
+mod HeldLaws
 mod StandsLaws

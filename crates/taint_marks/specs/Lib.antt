@@ -1,3 +1,4 @@
 pub mod Calm
+pub mod Held
 pub mod Marked
 pub mod Marks

@@ -11,16 +11,17 @@ ghost use Rattle.analysis_model.specs.Findings.{first_step, tally, kept};
 ghost use Rattle.analysis_model.specs.InRam.{least_in_ram};
 ghost use Rattle.analysis_model.specs.Look.{finding_at};
 ghost use Rattle.analysis_model.specs.Made.{make_of};
-ghost use Rattle.analysis_model.specs.Taint.{Register, Byte, is_marked, is_marked_jump, bytes_from, loaded as sources_loaded, old_bytes, operands, mark_of, union_of, writes_as, writes_by, with_result as writes_with, no_writes, atomic_writes, csr_writes, scratch_writes, jump, leak, leaked};
+ghost use Rattle.analysis_model.specs.Taint.{Register, Scratch, Byte, is_marked, is_marked_jump, bytes_from, loaded as sources_loaded, old_bytes, operands, mark_of, union_of, writes_as, writes_by, with_result as writes_with, no_writes, atomic_writes, csr_writes, scratch_writes, jump, leak, leaked};
 ghost use Rattle.rv_decode.specs.Listing.{instruction};
 ghost use Rattle.taint_marks.specs.Calm.{AreUnmarked, NoneMarked, IsUnmarked};
+ghost use Rattle.taint_marks.specs.Held.{weight};
 ghost use Rattle.taint_marks.specs.Marked.{marked_by, given_result, given_stored};
 ghost use Rattle.taint_marks.specs.Marks.{Marks, Stands, make_now, guest_now, mark_now, with_given, after, registers_with, shade_with};
 
 use elf_image::Image;
 use finding_tally::Tally;
 use memory_map::{NoMemory, SharedByThreads};
-use run_events::{Access, Announcement, Event, Finding, FindingKind, Watcher};
+use run_events::{Access, Announcement, Event, Finding, FindingKind, Watcher, may_announce};
 use rv_decode::{AtomicOp, CsrOp, Instr, RegOp, decode};
 use shadow_state::Shadow;
 use std::alloc::Global;
@@ -50,15 +51,28 @@ pub struct Taint {
     ram_kib: u32,
     registers: [u8; 32],
     scratch: u8,
+    // how many of these have a mark, for the quick test
+    held: u32,
     shadow: Shadow,
     found: Tally,
 }
 
 impl SharedByThreads for Taint {}
 
+// So many marks are held, one for the old one of a place.
+#[inline(always)]
+fn held_with(held: u32, old: u8, new: u8) -> u32
+    requires least { weight old ≤ held }
+    requires most { held ≤ 33 }
+    ensures { result + weight old ≡ held + weight new }
+{
+    held - u32::from(old != 0) + u32::from(new != 0)
+}
+
 impl Model for Taint {
     ghost use Rattle.memory_map.specs.declared.TheConstants.{MOST_RAM_KIB};
     ghost use Rattle.std.specs.Prelude.{◌≡◌, ◌*◌, ◌≤◌, length};
+    ghost use Rattle.taint_marks.specs.Held.{marks_held};
     ghost use Rattle.taint_marks.specs.Marks.{Marks};
 
     ghost Value = { Marks };
@@ -71,8 +85,8 @@ impl Model for Taint {
       found = t.found;
     } };
 
-    ghost invariant = { λ t. (t.ram_kib ≤ MOST_RAM_KIB)
-        × (length t.shadow.bytes ≡ 1024 * t.ram_kib) };
+    ghost invariant = { λ t. (t.ram_kib ≤ MOST_RAM_KIB) × (length t.shadow.bytes ≡ 1024 * t.ram_kib)
+        × (t.held ≡ marks_held t.registers t.scratch) };
 }
 
 impl Watcher for Taint {
@@ -109,6 +123,7 @@ impl Taint {
             ram_kib,
             registers: [0; 32],
             scratch: 0,
+            held: 0,
             shadow,
             found: Tally::new(),
         })
@@ -149,15 +164,8 @@ impl Taint {
         ensures { result ≡ true → after self.now event.now ≡ self.now }
     {
         match event {
-            Event::Exec {
-                word,
-                access,
-                told,
-                ..
-            } => {
-                Announcement::of(*word, *told).is_none()
-                    && self.names_no_mark(*word)
-                    && self.touches_no_mark(access)
+            Event::Exec { word, access, .. } => {
+                !may_announce(*word) && self.names_no_mark(*word) && self.touches_no_mark(access)
             }
             Event::Dma { .. } => false,
             Event::Irq { .. } | Event::Trap { .. } => true,
@@ -165,9 +173,26 @@ impl Taint {
     }
 
     // Whether mscratch has no mark, nor has any register that a field of the word names, be it read, written or neither.
-    #[tactic(auto, using(crate::proofs::CalmLaws::AreUnmarked_joined))]
+    // Mostly there is no mark at all.
     #[inline(always)]
     fn names_no_mark(&self, word: u32) -> bool
+        ensures { result ≡ true → AreUnmarked self.now word }
+    {
+        self.holds_no_mark() || self.has_clear_fields(word)
+    }
+
+    // Whether no register has a mark, nor has mscratch.
+    #[tactic(auto, using(crate::proofs::HeldLaws::none_held, crate::proofs::HeldLaws::none_held_aside))]
+    #[inline(always)]
+    fn holds_no_mark(&self) -> bool
+        ensures registers { result ≡ true → (n : ℕ) → mark_now self.now (Register n) ≡ 0 }
+        ensures scratch { result ≡ true → mark_now self.now Scratch ≡ 0 }
+    {
+        self.held == 0
+    }
+
+    #[tactic(auto, using(crate::proofs::CalmLaws::AreUnmarked_joined))]
+    fn has_clear_fields(&self, word: u32) -> bool
         ensures { result ≡ true → AreUnmarked self.now word }
     {
         let rd = self.register(word >> 7 & 31);
@@ -193,7 +218,7 @@ impl Taint {
     fn is_unmarked(&self, address: u32) -> bool
         ensures { result ≡ true → (width : ℕ) → width ≤ 4 → NoneMarked self.now address width }
     {
-        self.shadow.is_clear(address, u8::MAX)
+        self.shadow.has_four_clear(address, u8::MAX)
     }
 
     // Nearly each instruction has nothing to find, and only moves marks.
@@ -203,12 +228,8 @@ impl Taint {
         ensures { self.new ≡ after self.old event.now }
     {
         match event {
-            Event::Exec {
-                word,
-                access,
-                told,
-                ..
-            } if Announcement::of(*word, *told).is_none() && !self.jumps_marked(decode(*word)) => {
+            Event::Exec { word, access, .. }
+                if !may_announce(*word) && !self.jumps_marked(decode(*word)) => {
                 self.give(*word, access)
             }
             _ => self.take_in_whole(event),
@@ -549,7 +570,9 @@ impl Taint {
         } }
     {
         if rd >= 1 && rd < 32 {
-            self.registers[rd as usize] = mark;
+            let place = rd as usize;
+            self.held = held_with(self.held, self.registers[place], mark);
+            self.registers[place] = mark;
         }
     }
 
@@ -557,6 +580,7 @@ impl Taint {
         ensures { self.new ≡ record self.old { scratch = unwrap_or mark self.old.scratch } }
     {
         if let Some(mark) = mark {
+            self.held = held_with(self.held, self.scratch, mark);
             self.scratch = mark;
         }
     }
