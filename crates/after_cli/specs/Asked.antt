@@ -1,5 +1,5 @@
 -- What words ask for, and the job of a run.
-use Rattle.std.specs.Prelude.{◌≡◌, ℕ, ◌<◌, List, Option, Result, Ok, Err}
+use Rattle.std.specs.Prelude.{◌≡◌, ◌⊎◌, ℕ, ◌<◌, List, Option, Result, Ok, Err}
 use Rattle.after_edge.specs.Files.{Contents}
 use Rattle.command_words.specs.declared.fault.WordsFault.{WordsFault}
 use Rattle.command_words.specs.Jobs.{RunJob, Run, job_in}
@@ -44,6 +44,10 @@ IsMore (Err fault) = ⊥
 
 abbrev pub AsksForMore : List (List ℕ) → Type 0
 AsksForMore words = IsMore (job_in words)
+
+-- the words ask for no run that is built
+abbrev pub AskForNoRun : List (List ℕ) → Type 0
+AskForNoRun words = AreNoJob words ⊎ AsksForMore words
 
 -- why words ask for no run that is built
 abbrev pub IsNoRun : List (List ℕ) → Refusal → Type 0

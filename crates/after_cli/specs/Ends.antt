@@ -33,34 +33,38 @@ pub record Call (O E : Type 0) : Type 1 where
 abbrev pub TellsLine : {E : Type 0} → Telling E → E → E → List ℕ → Type 0
 TellsLine sink old new told = Writes sink old new told ⊎ WritesPart sink old new told
 
--- Why a call does nothing: the words are no job; they ask for what is not built; or the files of a run are not taken. No
--- memory has no cause, and comes only where a run is asked for.
+-- Why a call does nothing, and the files' count, which is as before unless a call of them failed: the words are no job; they
+-- ask for what is not built; the files of a run are not taken; or there was no memory to open the run of some job.
 abbrev pub HasReason : Option Contents → List (List ℕ) → (before now : ℕ) → Refusal → Type 0
-HasReason content words before now (refusal.Words fault) = job_in words ≡ Err fault
-HasReason content words before now refusal.NotBuilt = AsksForMore words
+HasReason content words before now (refusal.Words fault) =
+    (now ≡ before) × (job_in words ≡ Err fault)
+HasReason content words before now refusal.NotBuilt = (now ≡ before) × AsksForMore words
 HasReason content words before now (refusal.Inputs fault) =
     (run : RunJob) × IsAsked words run
     × HasCause (inputs_in run.ram_kib) content (names_of run) before now fault
-HasReason content words before now refusal.NoMemory = (run : RunJob) × IsAsked words run
+HasReason content words before now refusal.NoMemory =
+    (now ≡ before) × (job : Job) × IsRunOf content words job
 
--- A run was done: the bytes added to the output are the text of its job, no more and no less, the status is the job's, and
--- nothing was told of errors.
+-- A run was done: the bytes added to the output are the text of its job, no more and no less, by turns of the pattern that
+-- the words name; the status is the job's, nothing was told of errors, and the files' count is as before.
 pub record IsDone {O E : Type 0} (call : Call O E) (outcome : Outcome) : Type 0 where
   pub job : Job
   pub run : IsRunOf call.content call.words job
+  pub still : call.faults_after ≡ call.faults
   pub closing : Closing
   pub opened : outcome.closing ≡ Some closing
-  pub done : IsDoneJob call.out call.old call.new job outcome.status closing
+  pub done : IsDoneJob call.out call.old call.new job run.run.turns outcome.status closing
   pub quiet : call.err_new ≡ call.err_old
 
--- A put of the output failed: its count rose, and some prefix of the job's text was added.
+-- A put of the output failed: its count rose, some prefix of the job's text was added, and the files' count is as before.
 pub record IsCutOff {O E : Type 0} (call : Call O E) (outcome : Outcome) : Type 0 where
   pub job : Job
   pub run : IsRunOf call.content call.words job
+  pub still : call.faults_after ≡ call.faults
   pub status : outcome.status ≡ 6
   pub closing : Closing
   pub opened : outcome.closing ≡ Some closing
-  pub failed : HasFailedOutput call.out call.old call.new job closing
+  pub failed : HasFailedOutput call.out call.old call.new job run.run.turns closing
   pub told : TellsLine call.err call.err_old call.err_new output_failed_line
 
 -- Nothing was done, for this reason: nothing was added to the output, and no run was opened.

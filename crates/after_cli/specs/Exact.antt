@@ -1,5 +1,5 @@
 -- What a call must come to where the files tell what they are, and neither they nor the output fail.
-use Rattle.std.specs.Prelude.{◌≡◌, ◌⊎◌, ℕ, nat_lt, MatchBool, List, [], Option, Some, None, Result, Ok, Err}
+use Rattle.std.specs.Prelude.{◌≡◌, ◌⊎◌, ℕ, nat_lt, MatchBool, List, [], Option, Some, None, IsSome, Result, Ok, Err}
 use Rattle.after_edge.specs.Files.{Contents}
 use Rattle.after_edge.specs.Sink.{Telling, Writes}
 use Rattle.command_words.specs.declared.fault.WordsFault.{WordsFault}
@@ -33,18 +33,23 @@ refused_status (BadImage fault) = 3
 refused_status (BadScript fault) = 4
 
 module _ {O : Type 0} (out : Telling O) (old new : O) (outcome : Outcome) where
+  -- there was no memory, which is told only where the image is there
+  abbrev pub LacksMemory : Contents → RunJob → Type 0
+  LacksMemory files run = (outcome.status ≡ 9) × IsSome (files run.image)
+
   -- of a run whose files give this: its whole text and its status, or the status of what refuses them; or no memory
-  abbrev pub IsRightBy : RunJob → Result Given Refusal → Type 0
-  IsRightBy run (Ok given) =
-      (outcome.status ≡ 9)
+  abbrev pub IsRightBy : Contents → RunJob → Result Given Refusal → Type 0
+  IsRightBy files run (Ok given) =
+      LacksMemory files run
       ⊎ (Writes out old new (text (job_for run given))
       × (outcome.status ≡ status (job_for run given)))
-  IsRightBy run (Err refusal) = (outcome.status ≡ 9) ⊎ (outcome.status ≡ refused_status refusal)
+  IsRightBy files run (Err refusal) =
+      LacksMemory files run ⊎ (outcome.status ≡ refused_status refusal)
 
   abbrev pub IsRightRun : Contents → RunJob → Type 0
   IsRightRun files run =
       MatchBool (nat_lt 0 run.threads) (outcome.status ≡ 10)
-      (IsRightBy run (inputs_in run.ram_kib (found_in files (names_of run))))
+      (IsRightBy files run (inputs_in run.ram_kib (found_in files (names_of run))))
 
   -- of words that are this, over files that are these
   abbrev pub IsRight : Contents → Result words.Job WordsFault → Type 0

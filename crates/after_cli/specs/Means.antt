@@ -5,23 +5,15 @@ use Rattle.after_edge.specs.declared.sink.Failed.{Failed}
 use Rattle.after_edge.specs.Sink.{Telling}
 use Rattle.job_model.specs.Job.{Job}
 use Rattle.guard_run.specs.declared.closing.Closing.{Closing}
-use Rattle.refusals.specs.declared.refusal.Refusal.TheVariants.{NoMemory}
+use Rattle.refusals.specs.declared.refusal.Refusal.{Refusal}
 use Rattle.refusals.specs.Lines.{output_failed_line, refusal_line}
 use Rattle.refusals.specs.Status.{status_of}
 use Rattle.after_cli.specs.declared.running.JobEnd.{JobEnd}
-use Rattle.after_cli.specs.declared.running.JobEnd.TheVariants as end
-use Rattle.after_cli.specs.declared.top.Answer.{Answer}
-use Rattle.after_cli.specs.declared.top.Answer.TheVariants.{Done, OutputFailed, Refused}
+use Rattle.after_cli.specs.declared.running.JobEnd.TheVariants.{Done, OutputFailed}
 use Rattle.after_cli.specs.Asked.{IsRunOf}
 use Rattle.after_cli.specs.declared.top.Outcome.{Outcome}
 use Rattle.after_cli.specs.Ends.{HasReason, TellsLine}
 use Rattle.after_cli.specs.JobEnds.{HasFailedOutput, IsDoneJob}
-
--- the answer that a job's end gives
-abbrev pub answer_of : JobEnd → Answer
-answer_of (end.Done status closing) = Done status closing
-answer_of (end.OutputFailed closing) = OutputFailed closing
-answer_of end.NoMemory = Refused NoMemory
 
 module _ {O : Type 0} (content : Option Contents) (words : List (List ℕ)) (before now : ℕ)
     (out : Telling O) (old new : O) where
@@ -29,27 +21,30 @@ module _ {O : Type 0} (content : Option Contents) (words : List (List ℕ)) (bef
   pub record HasDone (number : ℕ) (closing : Closing) : Type 0 where
     pub job : Job
     pub run : IsRunOf content words job
-    pub done : IsDoneJob out old new job number closing
+    pub still : now ≡ before
+    pub done : IsDoneJob out old new job run.run.turns number closing
 
   pub record HasLostOutput (closing : Closing) : Type 0 where
     pub job : Job
     pub run : IsRunOf content words job
-    pub failed : HasFailedOutput out old new job closing
+    pub still : now ≡ before
+    pub failed : HasFailedOutput out old new job run.run.turns closing
 
   -- what an answer says of the words, the files and the output
-  abbrev pub Means : Answer → Type 0
-  Means (Done status closing) = HasDone status closing
-  Means (OutputFailed closing) = HasLostOutput closing
-  Means (Refused refusal) = HasReason content words before now refusal × (new ≡ old)
+  abbrev pub Means : Result JobEnd Refusal → Type 0
+  Means (Ok (Done number closing)) = HasDone number closing
+  Means (Ok (OutputFailed closing)) = HasLostOutput closing
+  Means (Err refusal) = HasReason content words before now refusal × (new ≡ old)
 
 -- how a call with an answer ends: its status and closing, and what is told of errors
-abbrev pub Concludes : {E : Type 0} → Answer → Telling E → (old new : E) → Outcome → Type 0
-Concludes (Done number closing) err old new outcome =
+abbrev pub Concludes : {E : Type 0} → Result JobEnd Refusal → Telling E → (old new : E) → Outcome
+    → Type 0
+Concludes (Ok (Done number closing)) err old new outcome =
     (outcome ≡ record { status = number; closing = Some closing }) × (new ≡ old)
-Concludes (OutputFailed closing) err old new outcome =
+Concludes (Ok (OutputFailed closing)) err old new outcome =
     (outcome ≡ record { status = 6; closing = Some closing })
     × TellsLine err old new output_failed_line
-Concludes (Refused refusal) err old new outcome =
+Concludes (Err refusal) err old new outcome =
     (outcome ≡ record { status = status_of refusal; closing = None })
     × TellsLine err old new (refusal_line refusal)
 

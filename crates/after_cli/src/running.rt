@@ -14,20 +14,19 @@ use after_edge::{Failed, Sink};
 use analysis_model::RunFacts;
 use analysis_set::{Analysis, report_head, report_part};
 use guard_run::{Closing, Parts, RunJob, run_turns};
+use memory_map::NoMemory;
 use run_events::EndCause;
 use run_inputs::Inputs;
 use run_settings::Letter;
 use std::alloc::Global;
 
-/// What a job came to.
+/// What a job came to that was opened.
 #[derive(Drop)]
 pub enum JobEnd {
     /// The run was done, and the job's whole text was written.
     Done { status: u8, closing: Closing },
     /// A put of the output failed. Some prefix of the job's text was written.
     OutputFailed { closing: Closing },
-    /// There was no memory to open it. Nothing was written.
-    NoMemory,
 }
 
 // Writes the parts of so many analyses, which are all, in order.
@@ -106,18 +105,19 @@ fn tell<O: Sink>(closing: &Closing, count: u32, out: &mut O) -> Result<u8, Faile
     Ok(status_number(facts.end, has_finding(closing, count)))
 }
 
-/// Runs a job by turns: its released output and its report go out. It takes memory to open the run, and then none.
+/// Runs a job by turns of a pattern: its released output and its report go out. It takes memory to open the run, and then
+/// none; where there is none to open it, nothing is written.
 pub fn run_job<O: Sink>(
     alloc: Global,
     job: &RunJob,
     turns: &[Letter],
     inputs: Inputs,
     out: &mut O,
-) -> JobEnd
+) -> Result<JobEnd, NoMemory>
     requires runnable { IsRunnable (job_of job.now inputs.image inputs.script inputs.disk.items) }
     requires pattern { IsPattern (length job.now.kinds) turns.now }
     ensures { JobEnds O.told out.old out.new
-        (job_of job.now inputs.image inputs.script inputs.disk.items) result }
+        (job_of job.now inputs.image inputs.script inputs.disk.items) turns.now result }
 {
     let Inputs {
         image,
@@ -126,16 +126,16 @@ pub fn run_job<O: Sink>(
     } = inputs;
     let mut parts = match Parts::new(alloc, job, &image, script, disk) {
         Ok(parts) => parts,
-        Err(_) => return JobEnd::NoMemory,
+        Err(fault) => return Err(fault),
     };
     let ran = run_turns(&mut parts, turns, out);
     let closing = parts.finish();
     match ran {
         Ok(()) => {}
-        Err(_) => return JobEnd::OutputFailed { closing },
+        Err(_) => return Ok(JobEnd::OutputFailed { closing }),
     }
     match tell(&closing, job.kinds.len(), out) {
-        Ok(status) => JobEnd::Done { status, closing },
-        Err(_) => JobEnd::OutputFailed { closing },
+        Ok(status) => Ok(JobEnd::Done { status, closing }),
+        Err(_) => Ok(JobEnd::OutputFailed { closing }),
     }
 }

@@ -8,10 +8,10 @@ ghost use Rattle.command_words.specs.Sound.{IsSoundRun};
 ghost use Rattle.command_words.specs.Says.{run_said};
 ghost use Rattle.refusals.specs.Lines.{output_failed_line, refusal_line};
 ghost use Rattle.refusals.specs.Status.{status_of};
-ghost use Rattle.after_cli.specs.Asked.{AreNoJob, AsksForMore, IsAsked, IsNoRun};
+ghost use Rattle.after_cli.specs.Asked.{AreNoJob, AskForNoRun, AsksForMore, IsAsked, IsNoRun};
 ghost use Rattle.after_cli.specs.Ends.{Ends, TellsLine};
 ghost use Rattle.after_cli.specs.Exact.{IsRight};
-ghost use Rattle.after_cli.specs.Means.{Concludes, ShowsText, Means, answer_of};
+ghost use Rattle.after_cli.specs.Means.{Concludes, ShowsText, Means};
 
 use crate::running::{JobEnd, run_job};
 use after_edge::{Failed, Files, Sink};
@@ -28,26 +28,6 @@ pub struct Outcome {
     pub status: u8,
     /// What a run has left; none where no run was opened.
     pub closing: Option<Closing>,
-}
-
-// What the words and the files come to.
-#[derive(Drop)]
-enum Answer {
-    Done { status: u8, closing: Closing },
-    OutputFailed { closing: Closing },
-    Refused(Refusal),
-}
-
-impl Answer {
-    fn of_job(end: JobEnd) -> Answer
-        ensures { result ≡ answer_of end }
-    {
-        match end {
-            JobEnd::Done { status, closing } => Answer::Done { status, closing },
-            JobEnd::OutputFailed { closing } => Answer::OutputFailed { closing },
-            JobEnd::NoMemory => Answer::Refused(Refusal::NoMemory),
-        }
-    }
 }
 
 // The run that words ask for, on one thread.
@@ -77,7 +57,7 @@ fn answer_run<F: Files, O: Sink>(
     run: &RunWords<'_>,
     files: &mut F,
     out: &mut O,
-) -> Answer
+) -> Result<JobEnd, Refusal>
     requires { IsSoundRun (run_said run.now) }
     ensures means { (words : List (List ℕ)) → IsAsked words (run_said run.now) →
         Means (F.content files.old) words (F.faults files.old) (F.faults files.new)
@@ -86,7 +66,7 @@ fn answer_run<F: Files, O: Sink>(
 {
     let inputs = match read_inputs(alloc, files, run.image, run.script, run.disk, run.ram_kib) {
         Ok(inputs) => inputs,
-        Err(fault) => return Answer::Refused(Refusal::Inputs(fault)),
+        Err(fault) => return Err(Refusal::Inputs(fault)),
     };
     let job = RunJob {
         ram_kib: run.ram_kib,
@@ -95,7 +75,10 @@ fn answer_run<F: Files, O: Sink>(
         kinds: run.kinds,
         required: run.required,
     };
-    Answer::of_job(run_job(alloc, &job, run.turns.letters(), inputs, out))
+    match run_job(alloc, &job, run.turns.letters(), inputs, out) {
+        Ok(end) => Ok(end),
+        Err(_) => Err(Refusal::NoMemory),
+    }
 }
 
 // Judges the words, and does what they ask for.
@@ -104,14 +87,15 @@ fn answer_words<F: Files, O: Sink>(
     words: &[String],
     files: &mut F,
     out: &mut O,
-) -> Answer
+) -> Result<JobEnd, Refusal>
     ensures means { Means (F.content files.old) (map string_bytes words.now)
         (F.faults files.old) (F.faults files.new) O.told out.old out.new result }
+    ensures untouched { AskForNoRun (map string_bytes words.now) → files.new ≡ files.old }
     ensures same { F.content files.new ≡ F.content files.old }
 {
     match asked_run(words) {
         Ok(run) => answer_run(alloc, &run, files, out),
-        Err(refusal) => Answer::Refused(refusal),
+        Err(refusal) => Err(refusal),
     }
 }
 
@@ -152,16 +136,16 @@ pub fn end_shown<E: Sink>(shown: Result<(), Failed>, err: &mut E) -> Outcome
 }
 
 // The end of a call with this answer.
-fn end_answer<E: Sink>(answer: Answer, err: &mut E) -> Outcome
+fn end_answer<E: Sink>(answer: Result<JobEnd, Refusal>, err: &mut E) -> Outcome
     ensures { Concludes answer E.told err.old err.new result }
 {
     match answer {
-        Answer::Done { status, closing } => Outcome {
+        Ok(JobEnd::Done { status, closing }) => Outcome {
             status,
             closing: Some(closing),
         },
-        Answer::OutputFailed { closing } => end_failed(Some(closing), err),
-        Answer::Refused(refusal) => end_with(refusal, err),
+        Ok(JobEnd::OutputFailed { closing }) => end_failed(Some(closing), err),
+        Err(refusal) => end_with(refusal, err),
     }
 }
 
@@ -189,14 +173,15 @@ pub fn refusal_before(words: &[String]) -> Refusal
 /// - 3, 4: the image or the disk, or the script, is refused or too long.
 /// - 5: a file is absent, or `files` failed.
 /// - 6: a put of `out` failed, and its count of faults rose. Some prefix of the job's text was added.
-/// - 9: no memory; no clause ties it to a cause.
+/// - 9: no memory, for a run whose image is there; no clause says that it was refused.
 /// - 10: the words are a job that is not built: of another command, or with threads.
 ///
 /// The words are judged first, then what is not built, then the files. With the statuses other than those of a run that was
 /// done, and 6, nothing was added to `out`, and there is no `closing`. `closing` holds the one log and what the replicas
 /// have made of it. After a failed put the log was closed where it stood, and each replica has read to the close.
 ///
-/// A refusal, and status 6, writes its line on `err`; a failure of `err` changes no answer. The files' content is as before.
+/// A refusal, and status 6, writes its line on `err`; a failure of `err` changes no answer. The files' content is as before,
+/// and so is their count of faults where none of their calls failed; where the words are refused they are not called.
 pub fn aftersight_plain<F: Files, O: Sink, E: Sink>(
     alloc: Global,
     words: &[String],
@@ -228,6 +213,9 @@ pub fn aftersight_plain<F: Files, O: Sink, E: Sink>(
     // Words alone decide on these two.
     ensures words { (result.status ≡ 2) ↔ AreNoJob (map string_bytes words.now) }
     ensures not_built { (result.status ≡ 10) ↔ AsksForMore (map string_bytes words.now) }
+
+    // They are judged before any file is asked for: with these statuses the files are just as before.
+    ensures untouched { AskForNoRun (map string_bytes words.now) → files.new ≡ files.old }
 
     ensures files { F.content files.new ≡ F.content files.old }
 {

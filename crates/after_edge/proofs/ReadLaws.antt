@@ -1,28 +1,20 @@
 -- Reading a file piece by piece: the bytes so far are a prefix of what the name has.
-use Rattle.std.proofs.Common.{◌≡◌, ℕ, ◌+◌, ◌-◌, ◌<◌, ◌≤◌, List, [], ◌++◌, length, take, drop, Option, Some, None, unwrap_or, sym, ◌∙◌, ap, subst, inl, inr, append_assoc, append-nil, length-append, arith, ◌⊎◌}
+use Rattle.std.proofs.Common.{◌≡◌, ℕ, ◌+◌, ◌-◌, ◌<◌, ◌≤◌, List, [], ◌++◌, length, take, drop, Option, Some, is_some, unwrap_or, sym, ◌∙◌, ap, subst, append_assoc, append-nil, length-append, arith}
 use Rattle.std.proofs.lemmas.List.{nil_from_length, take-append-drop}
 use Rattle.std.proofs.lemmas.List.Prefix.{front_rest}
 use Rattle.list_laws.specs.Prefix.{IsPrefix}
-use Rattle.after_edge.specs.Files.{Contents, IfTold, IsAbsent, Reads, HasAbsentCause}
+use Rattle.after_edge.specs.Files.{Contents, IfTold, IsThere, Reads, HasAbsentCause}
 use Rattle.after_edge.specs.Reading.{IsLonger}
-use Rattle.after_edge.proofs.FaultLaws.{Rose-later}
 
 -- these bytes begin the named file; a name without one has only the empty beginning
 pub record BeginsFile (files : Contents) (name bytes : List ℕ) : Type 0 where
   pub front : IsPrefix bytes (unwrap_or (files name) [])
 
--- the name has a file
-pub record IsThere (files : Contents) (name : List ℕ) : Type 0 where
-  pub bytes : List ℕ
-  pub file : files name ≡ Some bytes
-
--- how far a file was read: a prefix of it, within the limit, and the count has not fallen; where some was read the name
--- has a file, and where none was the count is as before
+-- how far a file was read: a prefix of it, within the limit, and the count is as before
 pub record HasRead (content : Option Contents) (name bytes : List ℕ) (max before now : ℕ) : Type 0 where
   pub begins : IfTold content (λ files. BeginsFile files name bytes)
   pub within : length bytes ≤ max
-  pub kept : before ≤ now
-  pub started : (now ≡ before) ⊎ IfTold content (λ files. IsThere files name)
+  pub still : now ≡ before
 
 -- what begins the file that the name has
 front_of_file : (files : Contents) (name bytes whole : List ℕ) → files name ≡ Some whole → BeginsFile files name bytes → IsPrefix bytes whole
@@ -57,20 +49,6 @@ Reads-longer files name piece at count max read within more =
     let inside = read.within in
     record { bytes = read.bytes; file = read.file; longer = omega arith }
 
--- where an absent file is told, none of it was read
-still : (content : Option Contents) (name : List ℕ) (before now : ℕ) → IsAbsent content name → (now ≡ before) ⊎ IfTold content (λ files. IsThere files name) → now ≡ before
-still content name before now absent started = elim started [
-  | inl same ↦ same
-  | inr there ↦ (let file = (there absent.files absent.told).file in absurd (let clash : Some _ ≡ None = sym file ∙ absent.none in cc))
-]
-
--- a file that is absent now was so from the start
-absent_from_start : (content : Option Contents) (name bytes : List ℕ) (max before middle now : ℕ) → HasRead content name bytes max before middle → HasAbsentCause content name middle now → HasAbsentCause content name before now
-absent_from_start content name bytes max before middle now read cause = elim cause [
-  | inl absent ↦ inl (absent.0, absent.1 ∙ still content name before middle absent.0 read.started)
-  | inr untold ↦ inr (untold.0, Rose-later before middle now read.kept untold.1)
-]
-
 module _ (content later : Option Contents) (name bytes : List ℕ) (max before middle : ℕ) (read : HasRead content name bytes max before middle) (same : later ≡ content) where
   -- the read that gave nothing: the bytes so far are the file
   pub HasRead-end : (piece : List ℕ) (at count : ℕ) → at ≡ length bytes → count ≡ 0 → IfTold later (λ files. Reads files name at count piece) → IfTold content (λ files. files name ≡ Some bytes)
@@ -79,7 +57,7 @@ module _ (content later : Option Contents) (name bytes : List ℕ) (max before m
       Reads-end files name bytes piece (read.begins files told) (subst (λ (c : ℕ). P (length bytes) c) none (subst (λ (a : ℕ). P a count) here (reads files (same ∙ told))))
 
   -- the read that gave a piece
-  pub HasRead-next : (piece all : List ℕ) (at count now : ℕ) → at ≡ length bytes → all ≡ bytes ++ piece → length piece ≡ count → count ≤ max - at → middle ≤ now
+  pub HasRead-next : (piece all : List ℕ) (at count now : ℕ) → at ≡ length bytes → all ≡ bytes ++ piece → length piece ≡ count → count ≤ max - at → now ≡ middle
       → IfTold later (λ files. Reads files name at count piece) → HasRead content name all max before now
   HasRead-next piece all at count now here joined long fits stays reads =
       let sum : length all ≡ length bytes + length piece = ap length joined ∙ length-append bytes piece in
@@ -89,8 +67,7 @@ module _ (content later : Option Contents) (name bytes : List ℕ) (max before m
             let next = Reads-next files name bytes piece count (read.begins files told) (subst (λ (a : ℕ). Reads files name a count piece) here (reads files (same ∙ told))) in
             subst (λ (l : List ℕ). BeginsFile files name l) (sym joined) next;
         within = omega arith;
-        kept = (let kept = read.kept in omega arith);
-        started = inr (λ files told. record { bytes = (reads files (same ∙ told)).bytes; file = (reads files (same ∙ told)).file });
+        still = stays ∙ read.still;
       }
 
   -- the read that gave more than is left to take
@@ -100,6 +77,12 @@ module _ (content later : Option Contents) (name bytes : List ℕ) (max before m
       let inside : at ≤ max = omega arith in
       Reads-longer files name piece at count max (reads files (same ∙ told)) inside more
 
+  -- the read that gave a piece for which there is no memory: there is a file
+  pub HasRead-there : (piece : List ℕ) (at count : ℕ) → IfTold later (λ files. Reads files name at count piece) → IsThere content name
+  HasRead-there piece at count reads files told = ap is_some (reads files (same ∙ told)).file
+
   -- the read that found no file
   pub HasRead-absent : (now : ℕ) → HasAbsentCause later name middle now → HasAbsentCause content name before now
-  HasRead-absent now cause = absent_from_start content name bytes max before middle now read (subst (λ (c : Option Contents). HasAbsentCause c name middle now) same cause)
+  HasRead-absent now cause =
+      subst (λ (count : ℕ). HasAbsentCause content name count now) read.still
+      (subst (λ (c : Option Contents). HasAbsentCause c name middle now) same cause)

@@ -5,9 +5,9 @@ use Rattle.std.specs.Prelude.{◌≡◌, ℕ, ◌+◌, ◌-◌, ◌^◌, ◌≤�
 abbrev pub Rose : ℕ → ℕ → Type 0
 Rose before now = min (before + 1) (2 ^ 64 - 1) ≤ now
 
--- a call that failed has raised the count, and one that did not has not lowered it
+-- a call that failed has raised the count, and one that did not has left it alone
 abbrev pub Counts : {V E : Type 0} → Result V E → ℕ → ℕ → Type 0
-Counts (Ok value) before now = before ≤ now
+Counts (Ok value) before now = now ≡ before
 Counts (Err fault) before now = Rose before now
 
 -- one more; it saturates at the end of its type

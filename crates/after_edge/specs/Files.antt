@@ -1,5 +1,5 @@
 -- What the calls of files read and change.
-use Rattle.std.specs.Prelude.{◌≡◌, ◌≢◌, ◌⊎◌, ℕ, ◌-◌, ◌<◌, ◌≤◌, List, [], ◌++◌, length, take, drop, Option, Some, None, Result, Ok, Err, unwrap_or}
+use Rattle.std.specs.Prelude.{◌≡◌, ◌≢◌, ◌⊎◌, ℕ, ◌-◌, ◌<◌, ◌≤◌, List, [], ◌++◌, length, take, drop, Option, Some, None, IsSome, Result, Ok, Err, unwrap_or}
 use Rattle.list_laws.specs.Prefix.{IsPrefix}
 use Rattle.after_edge.specs.declared.files.ReadFault.{ReadFault}
 use Rattle.after_edge.specs.declared.files.ReadFault.TheVariants.{Absent, Failed}
@@ -12,6 +12,10 @@ Contents = List ℕ → Option (List ℕ)
 -- where the files tell their content, it has this
 abbrev pub IfTold : Option Contents → (Contents → Type 0) → Type 0
 IfTold content P = (files : Contents) → content ≡ Some files → P files
+
+-- as far as the files tell, there is one of this name
+abbrev pub IsThere : Option Contents → List ℕ → Type 0
+IsThere content name = IfTold content (λ files. IsSome (files name))
 
 -- the content of files that do not tell it
 abbrev pub untold : Option Contents
@@ -36,9 +40,9 @@ abbrev pub HasAbsentCause : Option Contents → List ℕ → ℕ → ℕ → Typ
 HasAbsentCause content name before now =
     (IsAbsent content name × (now ≡ before)) ⊎ ((content ≡ None) × Rose before now)
 
--- when a read may give nothing, and what is counted
+-- when a read may give nothing, and what is counted: no read that gave its bytes is
 abbrev pub HasReadCause : Option Contents → List ℕ → ℕ → ℕ → Result ℕ ReadFault → Type 0
-HasReadCause content name before now (Ok count) = before ≤ now
+HasReadCause content name before now (Ok count) = now ≡ before
 HasReadCause content name before now (Err Absent) = HasAbsentCause content name before now
 HasReadCause content name before now (Err Failed) = Rose before now
 

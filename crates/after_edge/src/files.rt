@@ -19,8 +19,8 @@ pub trait Files {
     /// What they contain: from names to bytes, where they tell it. The host's files do not.
     ghost content: { Self → Option Contents };
 
-    /// How many of their calls have failed; where content is told, a read of an absent file is none of them. The count
-    /// saturates at the end of its type.
+    /// How many of their calls have failed; where content is told, a read of an absent file is none of them. A call that did
+    /// not fail leaves the count alone. It saturates at the end of its type.
     ghost faults: { Self → ℕ };
 
     /// Reads from byte `at` of the file into the buffer, and answers the number of bytes read.

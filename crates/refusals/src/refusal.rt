@@ -17,7 +17,7 @@ pub enum Refusal {
     NotBuilt,
     /// The files of a run are not taken, or there was no memory for them.
     Inputs(InputFault),
-    /// There was no memory to open the run. No clause ties it to a cause.
+    /// There was no memory to open the run. No clause says that it was refused.
     NoMemory,
 }
 

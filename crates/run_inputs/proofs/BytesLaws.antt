@@ -1,15 +1,16 @@
 -- What the reads of a run's files say together.
-use Rattle.std.proofs.Common.{◌≡◌, ℕ, ◌<◌, ◌≤◌, inl, inr, List, length, Option, Some, None, Result, Ok, Err, refl, sym, subst}
+use Rattle.std.proofs.Common.{◌≡◌, ℕ, ◌<◌, ◌≤◌, inl, inr, List, length, Option, Some, None, Result, Ok, Err, refl, sym, ap, subst, ◌∙◌}
+use Rattle.std.specs.Prelude.{IsSome, is_some}
 use Rattle.std.proofs.lemmas.Bool.{cases_lt, lt-ltb, le-ltb}
 use Rattle.format_model.specs.Then.{◌>>=◌}
-use Rattle.after_edge.specs.Files.{Contents}
-use Rattle.after_edge.proofs.FaultLaws.{Rose-later}
+use Rattle.after_edge.specs.Fault.{Rose}
+use Rattle.after_edge.specs.Files.{Contents, IsThere}
 use Rattle.run_inputs.specs.declared.fault.InputFault.{InputFault}
 use Rattle.run_inputs.specs.declared.fault.InputFault.TheVariants as fault
-use Rattle.run_inputs.specs.Faults.{HasCause}
+use Rattle.run_inputs.specs.Faults.{GivesFault, HasCause}
 use Rattle.run_inputs.specs.Files.{Names, IsFound, IsDiskFound, Comes}
-use Rattle.run_inputs.specs.Given.{Bytes, Refusal, ImageTooLong, ScriptTooLong, DiskTooLong, image_max, script_max, disk_max, file_in, bytes_in}
-use Rattle.run_inputs.specs.Read.{HasFailedFile, IsLong, IsFileRefused, IsDiskRefused}
+use Rattle.run_inputs.specs.Given.{Bytes, Found, Refusal, Absent, ImageTooLong, ScriptTooLong, DiskTooLong, image_max, script_max, disk_max, file_in, bytes_in}
+use Rattle.run_inputs.specs.Read.{IsLong, GivesNoBytes, IsFileRefused, IsDiskRefused}
 use Rattle.run_inputs.proofs.FoundLaws.{some_found, some_disk}
 
 -- a file that is not too long, and one that is
@@ -24,15 +25,24 @@ pub record IsRead (content : Option Contents) (name : List ℕ) (max : ℕ) (byt
   pub found : IsFound content name (Some bytes)
   pub within : length bytes ≤ max
 
+-- it is there
+was_there : (content : Option Contents) (name bytes : List ℕ) → IsFound content name (Some bytes) → IsThere content name
+was_there content name bytes found files told = ap is_some (found files told)
+
+-- a fault of one read, after others that left the count alone, is one of the whole
+refused_by : (content : Option Contents) (names : Names) (name : List ℕ) (max : ℕ) (too_long : InputFault) (before between now : ℕ) (told : InputFault) → between ≡ before
+    → (GivesNoBytes content name max too_long told → GivesFault bytes_in content names told) → IsFileRefused content name max too_long between now told → HasCause bytes_in content names before now told
+refused_by content names name max too_long before between now told still gives (inl (is, rose)) = inl (is, subst (λ (count : ℕ). Rose count now) still rose)
+refused_by content names name max too_long before between now told still gives (inr (same, refused)) = inr (same ∙ still, gives refused)
+
 module _ (content : Option Contents) (names : Names) where
   -- the image's fault
-  image_failed : (before now : ℕ) → HasFailedFile content names.image before now → HasCause bytes_in content names before now fault.Files
+  image_absent : IsSome content × IsFound content names.image None → GivesFault bytes_in content names fault.Files
   unfolding bytes_in
-  image_failed before now (inl rose) = inl rose
-  image_failed before now (inr (told, none)) =
+  image_absent (told, none) =
       let script = some_found content names.script in
       let disk = some_disk content names.disk in
-      inr (told, record { found = record { image = None; script = script.0; disk = disk.0 }; are = record { image = none; script = script.1; disk = disk.1 }; gives = refl })
+      (told, record { found = record { image = None; script = script.0; disk = disk.0 }; are = record { image = none; script = script.1; disk = disk.1 }; gives = refl })
 
   image_long : IsLong content names.image image_max → Comes bytes_in content names (Err ImageTooLong)
   unfolding bytes_in
@@ -45,19 +55,20 @@ module _ (content : Option Contents) (names : Names) where
         gives = rw (long image_max ImageTooLong longer.bytes longer.longer) refl;
       }
 
+  image_gives : (told : InputFault) → GivesNoBytes content names.image image_max fault.ImageTooLong told → GivesFault bytes_in content names told
+  image_gives told (inl (is, tells, none)) = subst (GivesFault bytes_in content names) (sym is) (image_absent (tells, none))
+  image_gives told (inr (inl (is, longer))) = subst (GivesFault bytes_in content names) (sym is) (image_long longer)
+  image_gives told (inr (inr (is, there))) = subst (GivesFault bytes_in content names) (sym is) there
+
   pub image_refused : (before now : ℕ) (told : InputFault) → IsFileRefused content names.image image_max fault.ImageTooLong before now told → HasCause bytes_in content names before now told
-  image_refused before now told (inl (is, failed)) = subst (HasCause bytes_in content names before now) (sym is) (image_failed before now failed)
-  image_refused before now told (inr (inl (is, longer))) = subst (HasCause bytes_in content names before now) (sym is) (image_long longer)
-  image_refused before now told (inr (inr is)) = subst (HasCause bytes_in content names before now) (sym is) tt
+  image_refused before now told = refused_by content names names.image image_max fault.ImageTooLong before before now told refl (image_gives told)
 
   module _ (image : List ℕ) (image_read : IsRead content names.image image_max image) where
     -- the script's fault, after the image was read
-    script_failed : (before now : ℕ) → HasFailedFile content names.script before now → HasCause bytes_in content names before now fault.Files
+    script_absent : IsSome content × IsFound content names.script None → GivesFault bytes_in content names fault.Files
     unfolding bytes_in
-    script_failed before now (inl rose) = inl rose
-    script_failed before now (inr (told, none)) =
-        let disk = some_disk content names.disk in
-        inr (
+    script_absent (told, none) =
+        let disk = some_disk content names.disk in (
           told,
           record {
             found = record { image = Some image; script = None; disk = disk.0 };
@@ -76,25 +87,26 @@ module _ (content : Option Contents) (names : Names) where
           gives = rw (whole image_max ImageTooLong image image_read.within, long script_max ScriptTooLong longer.bytes longer.longer) refl;
         }
 
-    pub script_refused : (before now : ℕ) (told : InputFault) → IsFileRefused content names.script script_max fault.ScriptTooLong before now told → HasCause bytes_in content names before now told
-    script_refused before now told (inl (is, failed)) = subst (HasCause bytes_in content names before now) (sym is) (script_failed before now failed)
-    script_refused before now told (inr (inl (is, longer))) = subst (HasCause bytes_in content names before now) (sym is) (script_long longer)
-    script_refused before now told (inr (inr is)) = subst (HasCause bytes_in content names before now) (sym is) tt
+    script_gives : (told : InputFault) → GivesNoBytes content names.script script_max fault.ScriptTooLong told → GivesFault bytes_in content names told
+    script_gives told (inl (is, tells, none)) = subst (GivesFault bytes_in content names) (sym is) (script_absent (tells, none))
+    script_gives told (inr (inl (is, longer))) = subst (GivesFault bytes_in content names) (sym is) (script_long longer)
+    script_gives told (inr (inr (is, there))) = subst (GivesFault bytes_in content names) (sym is) (was_there content names.image image image_read.found)
+
+    pub script_refused : (before between now : ℕ) (told : InputFault) → between ≡ before → IsFileRefused content names.script script_max fault.ScriptTooLong between now told → HasCause bytes_in content names before now told
+    script_refused before between now told still = refused_by content names names.script script_max fault.ScriptTooLong before between now told still (script_gives told)
 
     module _ (script : List ℕ) (script_read : IsRead content names.script script_max script) where
       -- the disk's fault, after both were read
-      disk_failed : (name : List ℕ) (before now : ℕ) → names.disk ≡ Some name → HasFailedFile content name before now → HasCause bytes_in content names before now fault.Files
+      disk_absent : (name : List ℕ) → names.disk ≡ Some name → IsSome content × IsFound content name None → GivesFault bytes_in content names fault.Files
       unfolding bytes_in
-      disk_failed name before now is (inl rose) = inl rose
-      disk_failed name before now is (inr (told, none)) =
-          inr (
-            told,
-            record {
-              found = record { image = Some image; script = Some script; disk = None };
-              are = record { image = image_read.found; script = script_read.found; disk = subst (λ (n : Option (List ℕ)). IsDiskFound content n None) (sym is) none };
-              gives = rw (whole image_max ImageTooLong image image_read.within, whole script_max ScriptTooLong script script_read.within) refl;
-            },
-          )
+      disk_absent name is (told, none) = (
+        told,
+        record {
+          found = record { image = Some image; script = Some script; disk = None };
+          are = record { image = image_read.found; script = script_read.found; disk = subst (λ (n : Option (List ℕ)). IsDiskFound content n None) (sym is) none };
+          gives = rw (whole image_max ImageTooLong image image_read.within, whole script_max ScriptTooLong script script_read.within) refl;
+        },
+      )
 
       disk_long : (name : List ℕ) → names.disk ≡ Some name → IsLong content name disk_max → Comes bytes_in content names (Err DiskTooLong)
       unfolding bytes_in
@@ -104,11 +116,14 @@ module _ (content : Option Contents) (names : Names) where
         gives = rw (whole image_max ImageTooLong image image_read.within, whole script_max ScriptTooLong script script_read.within, long disk_max DiskTooLong longer.bytes longer.longer) refl;
       }
 
-      pub disk_refused : (disk : Option (List ℕ)) (before now : ℕ) (told : InputFault) → names.disk ≡ disk → IsDiskRefused content disk before now told → HasCause bytes_in content names before now told
-      disk_refused None before now told is refused = absurd refused
-      disk_refused (Some name) before now told is (inl (same, failed)) = subst (HasCause bytes_in content names before now) (sym same) (disk_failed name before now is failed)
-      disk_refused (Some name) before now told is (inr (inl (same, longer))) = subst (HasCause bytes_in content names before now) (sym same) (disk_long name is longer)
-      disk_refused (Some name) before now told is (inr (inr same)) = subst (HasCause bytes_in content names before now) (sym same) tt
+      disk_gives : (name : List ℕ) (told : InputFault) → names.disk ≡ Some name → GivesNoBytes content name disk_max fault.DiskTooLong told → GivesFault bytes_in content names told
+      disk_gives name told is (inl (same, tells, none)) = subst (GivesFault bytes_in content names) (sym same) (disk_absent name is (tells, none))
+      disk_gives name told is (inr (inl (same, longer))) = subst (GivesFault bytes_in content names) (sym same) (disk_long name is longer)
+      disk_gives name told is (inr (inr (same, there))) = subst (GivesFault bytes_in content names) (sym same) (was_there content names.image image image_read.found)
+
+      pub disk_refused : (disk : Option (List ℕ)) (before between now : ℕ) (told : InputFault) → names.disk ≡ disk → between ≡ before → IsDiskRefused content disk between now told → HasCause bytes_in content names before now told
+      disk_refused None before between now told is still refused = absurd refused
+      disk_refused (Some name) before between now told is still refused = refused_by content names name disk_max fault.DiskTooLong before between now told still (disk_gives name told is) refused
 
       -- all were read
       pub bytes_come : (disk : List ℕ) → IsDiskFound content names.disk (Some disk) → length disk ≤ disk_max → Comes bytes_in content names (Ok (record { image = image; script = script; disk = disk }))
@@ -119,21 +134,17 @@ module _ (content : Option Contents) (names : Names) where
         gives = rw (whole image_max ImageTooLong image image_read.within, whole script_max ScriptTooLong script script_read.within, whole disk_max DiskTooLong disk few) refl;
       }
 
--- a fault of a later read is one of the whole
-pub cause_later : (content mid : Option Contents) (names : Names) (before between now : ℕ) (told : InputFault) → mid ≡ content → before ≤ between
-    → HasCause bytes_in mid names between now told → HasCause bytes_in content names before now told
-cause_later content mid names before between now told same kept cause =
-    rose_earlier told (subst (λ (c : Option Contents). HasCause bytes_in c names between now told) same cause)
+-- of files that were read the image is there
+image_some : (found : Found) (bytes : Bytes) → bytes_in found ≡ Ok bytes → IsSome found.image
+unfolding bytes_in
+image_some found bytes is = image_case found.image refl
   where
-    rose_earlier : (told : InputFault) → HasCause bytes_in content names between now told → HasCause bytes_in content names before now told
-    rose_earlier fault.Files (inl rose) = inl (Rose-later before between now kept rose)
-    rose_earlier fault.Files (inr absent) = inr absent
-    rose_earlier fault.ImageTooLong comes = comes
-    rose_earlier fault.ScriptTooLong comes = comes
-    rose_earlier fault.DiskTooLong comes = comes
-    rose_earlier (fault.Image e) comes = comes
-    rose_earlier (fault.Script e) comes = comes
-    rose_earlier fault.NoMemory comes = tt
+    image_case : (image : Option (List ℕ)) → found.image ≡ image → IsSome image
+    image_case None none = absurd (let e : ◌≡◌ {A = Result Bytes Refusal} (Err Absent) (Ok bytes) = rw none at is in cc)
+    image_case (Some image) some = refl
+
+pub image_there : (content : Option Contents) (names : Names) (bytes : Bytes) → Comes bytes_in content names (Ok bytes) → IsThere content names.image
+image_there content names bytes comes files told = ap is_some (comes.are.image files told) ∙ image_some comes.found bytes comes.gives
 
 -- files that were read are not too long
 module _ {Y : Type 0} (max : ℕ) (too_long : Refusal) (f : List ℕ → Result Y Refusal) (y : Y) where

@@ -1,6 +1,7 @@
 -- What is judged, and what the judge's faults say of the whole.
-use Rattle.std.proofs.Common.{◌≡◌, ℕ, ◌≤◌, length, Option, Result, Ok, Err, IfOk, IfErr, inl, inr, refl, ap, arith}
-use Rattle.after_edge.specs.Files.{Contents}
+use Rattle.std.proofs.Common.{◌≡◌, ℕ, ◌≤◌, List, length, Option, Some, None, is_some, Result, Ok, Err, IfOk, IfErr, inl, inr, refl, ap, arith, ◌∙◌}
+use Rattle.std.specs.Prelude.{IsSome}
+use Rattle.after_edge.specs.Files.{Contents, IsThere}
 use Rattle.elf_image.specs.declared.fault.ImageFault.{ImageFault}
 use Rattle.elf_image.specs.declared.fault.ImageFault.TheVariants as image
 use Rattle.elf_image.specs.Reads as elf
@@ -13,11 +14,11 @@ use Rattle.machine_model.specs.Image.{Image}
 use Rattle.run_inputs.specs.declared.inputs.Inputs.{Inputs}
 use Rattle.run_inputs.specs.declared.fault.InputFault.{InputFault}
 use Rattle.run_inputs.specs.declared.fault.InputFault.TheVariants as fault
-use Rattle.run_inputs.specs.Faults.{HasCause, of_image, of_script}
+use Rattle.run_inputs.specs.Faults.{GivesFault, HasCause, of_image, of_script}
 use Rattle.run_inputs.specs.Files.{Names, Comes}
-use Rattle.run_inputs.specs.Given.{Bytes, Given, Refusal, BadImage, BadScript, bytes_in, disk_max, given_in, inputs_in}
+use Rattle.run_inputs.specs.Given.{Bytes, Found, Given, Refusal, Absent, BadImage, BadScript, bytes_in, disk_max, given_in, inputs_in}
 use Rattle.run_inputs.specs.Read.{IsJudgedAs, given_by}
-use Rattle.run_inputs.proofs.BytesLaws.{AreShort}
+use Rattle.run_inputs.proofs.BytesLaws.{AreShort, image_there}
 
 -- the image's fault is the judge's
 image_bad : (ram_kib : ℕ) (bytes : Bytes) (k : image_model.Fault) → image_model.image_in ram_kib bytes.image ≡ Err k → given_in ram_kib bytes ≡ Err (BadImage k)
@@ -53,15 +54,18 @@ module _ (ram_kib : ℕ) (content : Option Contents) (names : Names) where
   unfolding inputs_in
   comes_on r comes = record { found = comes.found; are = comes.are; gives = rw comes.gives refl }
 
+  gives_on : (told : InputFault) → GivesFault bytes_in content names told → GivesFault (inputs_in ram_kib) content names told
+  gives_on fault.Files (told, comes) = (told, comes_on _ comes)
+  gives_on fault.ImageTooLong comes = comes_on _ comes
+  gives_on fault.ScriptTooLong comes = comes_on _ comes
+  gives_on fault.DiskTooLong comes = comes_on _ comes
+  gives_on (fault.Image e) (k, is, comes) = (k, is, comes_on _ comes)
+  gives_on (fault.Script e) (k, is, comes) = (k, is, comes_on _ comes)
+  gives_on fault.NoMemory there = there
+
   pub read_refused : (before now : ℕ) (told : InputFault) → HasCause bytes_in content names before now told → HasCause (inputs_in ram_kib) content names before now told
-  read_refused before now fault.Files (inl rose) = inl rose
-  read_refused before now fault.Files (inr (told, comes)) = inr (told, comes_on _ comes)
-  read_refused before now fault.ImageTooLong comes = comes_on _ comes
-  read_refused before now fault.ScriptTooLong comes = comes_on _ comes
-  read_refused before now fault.DiskTooLong comes = comes_on _ comes
-  read_refused before now (fault.Image e) (k, is, comes) = (k, is, comes_on _ comes)
-  read_refused before now (fault.Script e) (k, is, comes) = (k, is, comes_on _ comes)
-  read_refused before now fault.NoMemory comes = tt
+  read_refused before now told (inl failed) = inl failed
+  read_refused before now told (inr (still, gives)) = inr (still, gives_on told gives)
 
   module _ (bytes : Bytes) (read : Comes bytes_in content names (Ok bytes)) where
     judged_on : (answer : Result Given Refusal) → given_in ram_kib bytes ≡ answer → Comes (inputs_in ram_kib) content names answer
@@ -72,15 +76,30 @@ module _ (ram_kib : ℕ) (content : Option Contents) (names : Names) where
     judged_ok (Ok inputs) is = judged_on _ is
     judged_ok (Err e) is = tt
 
-    pub judged_err : (before now : ℕ) (r : Result Inputs InputFault) → IsJudgedAs (given_in ram_kib bytes) r → IfErr r (HasCause (inputs_in ram_kib) content names before now)
-    judged_err before now (Ok inputs) is = tt
-    judged_err before now (Err fault.Files) is = absurd is
-    judged_err before now (Err fault.ImageTooLong) is = absurd is
-    judged_err before now (Err fault.ScriptTooLong) is = absurd is
-    judged_err before now (Err fault.DiskTooLong) is = absurd is
-    judged_err before now (Err (fault.Image e)) (k, named, is) = (k, named, judged_on _ is)
-    judged_err before now (Err (fault.Script e)) (k, named, is) = (k, named, judged_on _ is)
-    judged_err before now (Err fault.NoMemory) is = tt
+    judge_gives : (told : InputFault) → IsJudgedAs (given_in ram_kib bytes) (Err told) → GivesFault (inputs_in ram_kib) content names told
+    judge_gives fault.Files is = absurd is
+    judge_gives fault.ImageTooLong is = absurd is
+    judge_gives fault.ScriptTooLong is = absurd is
+    judge_gives fault.DiskTooLong is = absurd is
+    judge_gives (fault.Image e) (k, named, is) = (k, named, judged_on _ is)
+    judge_gives (fault.Script e) (k, named, is) = (k, named, judged_on _ is)
+    judge_gives fault.NoMemory is = image_there content names bytes read
+
+    pub judged_err : (before now : ℕ) (r : Result Inputs InputFault) → now ≡ before → IsJudgedAs (given_in ram_kib bytes) r → IfErr r (HasCause (inputs_in ram_kib) content names before now)
+    judged_err before now (Ok inputs) still is = tt
+    judged_err before now (Err told) still is = inr (still, judge_gives told is)
+
+-- of files that give a run its inputs the image is there
+given_some : (ram_kib : ℕ) (found : Found) (given : Given) → inputs_in ram_kib found ≡ Ok given → IsSome found.image
+unfolding inputs_in bytes_in
+given_some ram_kib found given is = image_case found.image refl
+  where
+    image_case : (image : Option (List ℕ)) → found.image ≡ image → IsSome image
+    image_case None none = absurd (let e : ◌≡◌ {A = Result Given Refusal} (Err Absent) (Ok given) = rw none at is in cc)
+    image_case (Some image) some = refl
+
+pub given_there : (ram_kib : ℕ) (content : Option Contents) (names : Names) (given : Given) → Comes (inputs_in ram_kib) content names (Ok given) → IsThere content names.image
+given_there ram_kib content names given comes files told = ap is_some (comes.are.image files told) ∙ given_some ram_kib comes.found given comes.gives
 
 -- the disk is the one that was read
 pub short_disk : (r : Result Inputs InputFault) (bytes : Bytes) → IfOk r (λ inputs. inputs.disk.items ≡ bytes.disk) → AreShort bytes → IfOk r (λ inputs. length inputs.disk.items ≤ disk_max)

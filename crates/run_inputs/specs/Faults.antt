@@ -1,7 +1,7 @@
 -- The faults of a run's files, and the cause of each.
 use Rattle.std.specs.Prelude.{◌≡◌, ◌⊎◌, ℕ, Option, Some, None, IsSome, Result, Err}
 use Rattle.after_edge.specs.Fault.{Rose}
-use Rattle.after_edge.specs.Files.{Contents}
+use Rattle.after_edge.specs.Files.{Contents, IsThere}
 use Rattle.elf_image.specs.declared.fault.ImageFault.{ImageFault}
 use Rattle.elf_image.specs.declared.fault.ImageFault.TheVariants as image
 use Rattle.in_script.specs.declared.fault.ScriptFault.{ScriptFault}
@@ -51,21 +51,25 @@ of_script (script.Falling line) = fault.Script (script.Falling line)
 of_script (script.TooMany line) = fault.Script (script.TooMany line)
 of_script script.NoMemory = fault.NoMemory
 
--- When each fault comes, from a reader of the files: an absent file or a failure where the count rose or the files tell
--- that one is absent; each other where the definition gives it; no memory has no cause.
-abbrev pub HasCause : {Y : Type 0} → (Found → Result Y Refusal) → Option Contents → Names
-    → (before now : ℕ) → InputFault → Type 0
-HasCause read content names before now fault.Files =
-    Rose before now ⊎ (IsSome content × Comes read content names (Err Absent))
-HasCause read content names before now fault.ImageTooLong =
-    Comes read content names (Err ImageTooLong)
-HasCause read content names before now fault.ScriptTooLong =
-    Comes read content names (Err ScriptTooLong)
-HasCause read content names before now fault.DiskTooLong =
-    Comes read content names (Err DiskTooLong)
-HasCause read content names before now (fault.Image e) =
+-- The fault that a reader gives where no call of the files failed: one is absent, as they tell; the definition refuses
+-- them; or there was no memory, which is asked for only once some of the image was read.
+abbrev pub GivesFault : {Y : Type 0} → (Found → Result Y Refusal) → Option Contents → Names
+    → InputFault → Type 0
+GivesFault read content names fault.Files = IsSome content × Comes read content names (Err Absent)
+GivesFault read content names fault.ImageTooLong = Comes read content names (Err ImageTooLong)
+GivesFault read content names fault.ScriptTooLong = Comes read content names (Err ScriptTooLong)
+GivesFault read content names fault.DiskTooLong = Comes read content names (Err DiskTooLong)
+GivesFault read content names (fault.Image e) =
     (k : image_model.Fault) × (image_fault e ≡ Some k) × Comes read content names (Err (BadImage k))
-HasCause read content names before now (fault.Script e) =
+GivesFault read content names (fault.Script e) =
     (k : ℕ × script_model.Broken) × (script_fault e ≡ Some k)
     × Comes read content names (Err (BadScript k))
-HasCause read content names before now fault.NoMemory = Unit {0}
+GivesFault read content names fault.NoMemory = IsThere content names.image
+
+-- When each fault comes, from a reader of the files: a call of them failed, for which their count rose; or none did, the
+-- count is as before, and the reader gives it.
+abbrev pub HasCause : {Y : Type 0} → (Found → Result Y Refusal) → Option Contents → Names
+    → (before now : ℕ) → InputFault → Type 0
+HasCause read content names before now told =
+    ((told ≡ fault.Files) × Rose before now)
+    ⊎ ((now ≡ before) × GivesFault read content names told)

@@ -1,7 +1,7 @@
 -- What the readers of a run's files answer.
 use Rattle.std.specs.Prelude.{◌≡◌, ◌⊎◌, ℕ, ◌<◌, List, length, Option, Some, None, IsSome, Result, Ok, Err}
 use Rattle.after_edge.specs.Fault.{Rose}
-use Rattle.after_edge.specs.Files.{Contents}
+use Rattle.after_edge.specs.Files.{Contents, IsThere}
 use Rattle.format_model.specs.ImageFile as image_model
 use Rattle.format_model.specs.ScriptReading as script_model
 use Rattle.run_inputs.specs.declared.fault.InputFault.{InputFault}
@@ -29,18 +29,20 @@ pub record IsLong (content : Option Contents) (name : List ℕ) (max : ℕ) : Ty
   pub found : IsFound content name (Some bytes)
   pub longer : max < length bytes
 
--- there is no file of the name, or the files failed
-abbrev pub HasFailedFile : Option Contents → List ℕ → (before now : ℕ) → Type 0
-HasFailedFile content name before now =
-    Rose before now ⊎ (IsSome content × IsFound content name None)
+-- why one file is not read where no call failed: it is absent, as the files tell; it is too long, which is told as this
+-- fault; or there was no memory for it
+abbrev pub GivesNoBytes : Option Contents → List ℕ → (max : ℕ) → InputFault → InputFault → Type 0
+GivesNoBytes content name max too_long told =
+    ((told ≡ fault.Files) × IsSome content × IsFound content name None)
+    ⊎ ((told ≡ too_long) × IsLong content name max)
+    ⊎ ((told ≡ fault.NoMemory) × IsThere content name)
 
--- why one file is not read: it failed, it is too long, which is told as this fault, or there was no memory
+-- why one file is not read: a call failed, or none did
 abbrev pub IsFileRefused : Option Contents → List ℕ → (max : ℕ) → InputFault → (before now : ℕ)
     → InputFault → Type 0
 IsFileRefused content name max too_long before now told =
-    ((told ≡ fault.Files) × HasFailedFile content name before now)
-    ⊎ ((told ≡ too_long) × IsLong content name max)
-    ⊎ (told ≡ fault.NoMemory)
+    ((told ≡ fault.Files) × Rose before now)
+    ⊎ ((now ≡ before) × GivesNoBytes content name max too_long told)
 
 -- a disk that is not named is read without a fault
 abbrev pub IsDiskRefused : Option Contents → Option (List ℕ) → (before now : ℕ) → InputFault

@@ -20,7 +20,7 @@ pub enum InputFault {
     Image(ImageFault),
     /// The script's file is no script. It is never `NoMemory`.
     Script(ScriptFault),
-    /// There was no memory. No clause ties it to a cause.
+    /// There was no memory, after some of the image was read. No clause says that it was refused.
     NoMemory,
 }
 

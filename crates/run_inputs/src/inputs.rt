@@ -1,6 +1,6 @@
 //! What the files of a run give it.
 ghost use Rattle.memory_map.specs.declared.TheConstants.{LEAST_RAM_KIB, MOST_RAM_KIB};
-ghost use Rattle.std.specs.Prelude.{◌≡◌, ◌*◌, ◌≤◌, Ok, IfOk, IfErr, length, option_copied};
+ghost use Rattle.std.specs.Prelude.{◌≡◌, ◌*◌, ◌≤◌, Ok, IfOk, IfErr, OnOk, length, option_copied};
 ghost use Rattle.format_model.specs.ImageFile.{ImageFits};
 ghost use Rattle.machine_model.specs.Board.{AreMarked, IsPlayable};
 ghost use Rattle.run_inputs.specs.Faults.{HasCause};
@@ -69,10 +69,12 @@ pub fn read_inputs<F: Files>(
     requires least { LEAST_RAM_KIB ≤ ram_kib }
     requires most { ram_kib ≤ MOST_RAM_KIB }
 
-    // What the files give, by the definitions of images and scripts, or the first fault, unless there was no memory.
+    // What the files give, by the definitions of images and scripts, or the first fault, unless there was no memory. Their
+    // count is as before unless a call of them failed.
     ensures ok { IfOk result (λ inputs. Comes (inputs_in ram_kib) (F.content files.old)
         (record { image = image.now; script = script.now; disk = option_copied disk.entry })
         (Ok (given_by inputs))) }
+    ensures still { OnOk result (F.faults files.new ≡ F.faults files.old) }
     ensures cause { IfErr result (HasCause (inputs_in ram_kib) (F.content files.old)
         (record { image = image.now; script = script.now; disk = option_copied disk.entry })
         (F.faults files.old) (F.faults files.new)) }

@@ -37,7 +37,7 @@ fn read_file<F: Files>(
     ensures read { IfOk result
         (λ bytes. IsFound (F.content files.old) name.now (Some bytes.items)) }
     ensures within { IfOk result (λ bytes. length bytes.items ≤ max) }
-    ensures kept { OnOk result (F.faults files.old ≤ F.faults files.new) }
+    ensures still { OnOk result (F.faults files.new ≡ F.faults files.old) }
     ensures refused { IfErr result
         (IsFileRefused (F.content files.old) name.now max too_long (F.faults files.old)
         (F.faults files.new)) }
@@ -61,6 +61,7 @@ fn read_disk<F: Files>(
     ensures read { IfOk result
         (λ bytes. IsDiskFound (F.content files.old) (option_copied name.entry) (Some bytes.items)) }
     ensures within { IfOk result (λ bytes. length bytes.items ≤ disk_max) }
+    ensures still { OnOk result (F.faults files.new ≡ F.faults files.old) }
     ensures refused { IfErr result (IsDiskRefused (F.content files.old) (option_copied name.entry)
         (F.faults files.old) (F.faults files.new)) }
     ensures same { F.content files.new ≡ F.content files.old }
@@ -82,6 +83,7 @@ pub fn read_bytes<F: Files>(
     ensures ok { IfOk result (λ bytes. Comes bytes_in (F.content files.old)
         (record { image = image.now; script = script.now; disk = option_copied disk.entry })
         (Ok (bytes_of bytes))) }
+    ensures still { OnOk result (F.faults files.new ≡ F.faults files.old) }
     ensures cause { IfErr result (HasCause bytes_in (F.content files.old)
         (record { image = image.now; script = script.now; disk = option_copied disk.entry })
         (F.faults files.old) (F.faults files.new)) }

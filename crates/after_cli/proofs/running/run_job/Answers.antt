@@ -22,6 +22,7 @@ returns-in-Err-ran g c =
       cut = inl (record {
         count = stopped.count;
         put = stopped.put;
+        went = record { opened = c.in-Ok.parts; over = c.run_turns-ran.new.parts; before = c.in-Ok.ensures; taken = c.in-Err-ran.ensures.stops; stopped = stopped.stopped };
         added = stopped.added;
         closing_is = c.finish-closing.ensures.cut job stopped.count stopped.put stopped.stopped;
       });
@@ -38,6 +39,9 @@ returns-in-Ok-tell g c =
     let ended = c.in-Ok-ran.ensures.ok job c.in-Ok.ensures in
     let whole = c.finish-closing.ensures.whole job ended.ended in
     record {
+      between = c.run_turns-ran.new.out;
+      went = record { opened = c.in-Ok.parts; over = c.run_turns-ran.new.parts; before = c.in-Ok.ensures; taken = c.in-Ok-ran.ensures.turns; ended = ended.ended };
+      told = c.in-Ok-tell.ensures.ok job whole;
       written = Writes-then g.O.Sink.told c.args.out.now c.run_turns-ran.new.out c.tell.new.out (released_bytes job) (report job) ended.put (c.in-Ok-tell.ensures.ok job whole);
       status_is = c.in-Ok-tell.ensures.status job whole;
       closing_is = whole;
@@ -52,8 +56,11 @@ returns g c =
     record {
       written = WritesPart-then g.O.Sink.told c.args.out.now c.run_turns-ran.new.out c.tell.new.out (released_bytes job) (report job) ended.put told;
       cut = inr (record {
+        between = c.run_turns-ran.new.out;
+        went = record { opened = c.in-Ok.parts; over = c.run_turns-ran.new.parts; before = c.in-Ok.ensures; taken = c.in-Ok-ran.ensures.turns; ended = ended.ended };
         part = told.part;
         is_prefix = told.is_prefix;
+        told = told.added;
         added = Adds-then g.O.Sink.told.holds c.args.out.now c.run_turns-ran.new.out c.tell.new.out (released_bytes job) told.part ended.put.added told.added;
         closing_is = whole;
       });

@@ -5,6 +5,8 @@ use Rattle.std.proofs.lemmas.Bool.{eqb-true}
 use Rattle.list_laws.proofs.AllLaws.{each_item}
 use Rattle.command_words.specs.Sound.{IsSoundRun}
 use Rattle.command_words.specs.Says.{run_said}
+use Rattle.run_inputs.specs.Read.{given_by}
+use Rattle.after_cli.proofs.AnswerLaws.{means_end, means_no_memory}
 use Rattle.after_cli.proofs.LogSizes.{cap_from_size}
 use Rattle.after_cli.proofs.top.answer_run.Goals as goal
 
@@ -25,3 +27,13 @@ run_job-requires-clause-runnable g c =
       marked = c.in-Ok.ensures.marked;
       disk = omega (arith, c.in-Ok.ensures.disk);
     }
+
+pub returns-in-Ok-run_job-clause-means : goal.returns-in-Ok-run_job-clause-means
+returns-in-Ok-run_job-clause-means g c = λ words asked.
+    means_end (g.F.Files.content c.args.files.now) words (g.F.Files.faults c.args.files.now) (g.F.Files.faults c.read_inputs.new.files) g.O.Sink.told c.args.out.now c.run_job.new.out (run_said c.args.run.now) (given_by c.in-Ok.inputs)
+    asked c.in-Ok.ensures.ok c.in-Ok.ensures.still c.in-Ok-run_job.end (rw c.letters.ensures.turns at c.in-Ok-run_job.ensures)
+
+pub returns-in-Err-run_job-clause-means : goal.returns-in-Err-run_job-clause-means
+returns-in-Err-run_job-clause-means g c = λ words asked.
+    means_no_memory (g.F.Files.content c.args.files.now) words (g.F.Files.faults c.args.files.now) (g.F.Files.faults c.read_inputs.new.files) g.O.Sink.told c.args.out.now c.run_job.new.out (run_said c.args.run.now) (given_by c.in-Ok.inputs)
+    asked c.in-Ok.ensures.ok c.in-Ok.ensures.still c.in-Err-run_job.ensures

@@ -1,10 +1,10 @@
-use Rattle.std.proofs.Common.{◌≡◌, ◌-◌, ◌<◌, ◌++◌, length, take, refl, inl, ◌∙◌, arith, rules}
+use Rattle.std.proofs.Common.{◌≡◌, ◌-◌, ◌<◌, ◌++◌, length, take, refl, ◌∙◌, arith, rules}
 use Rattle.list_laws.proofs.PrefixLaws.{empty_IsPrefix}
-use Rattle.after_edge.proofs.ReadLaws.{HasRead-end, HasRead-next, HasRead-longer, HasRead-absent}
+use Rattle.after_edge.proofs.ReadLaws.{HasRead-end, HasRead-next, HasRead-longer, HasRead-there, HasRead-absent}
 use Rattle.after_edge.proofs.reading.read_through.Goals as goal
 
 pub pieces-init : goal.pieces-init
-pieces-init g c = rw c.new-bytes.ensures.items (record { begins = λ files told. record { front = empty_IsPrefix _ }; within = omega arith; kept = omega arith; started = inl refl }, refl)
+pieces-init g c = rw c.new-bytes.ensures.items (record { begins = λ files told. record { front = empty_IsPrefix _ }; within = omega arith; still = refl }, refl)
 
 pub returns-in-Err-Absent-clause-cause : goal.returns-in-Err-Absent-clause-cause
 returns-in-Err-Absent-clause-cause g c =
@@ -20,7 +20,11 @@ pub returns-then-max-len-clause-cause : goal.returns-then-max-len-clause-cause
 returns-then-max-len-clause-cause g c =
     let here : c.len.result ≡ length c.pieces.bytes.items = search rules in
     let more : c.args.max - c.len.result < c.in-Ok.count = omega arith in
-    (refl, HasRead-longer _ _ _ _ _ _ _ c.pieces.invariant.0 c.pieces.invariant.1 _ _ _ here more c.in-Ok.ensures.read, omega (arith, c.in-Ok.ensures.cause, c.pieces.invariant.0.kept))
+    (refl, HasRead-longer _ _ _ _ _ _ _ c.pieces.invariant.0 c.pieces.invariant.1 _ _ _ here more c.in-Ok.ensures.read, c.in-Ok.ensures.cause ∙ c.pieces.invariant.0.still)
+
+pub returns-in-Err-clause-cause : goal.returns-in-Err-clause-cause
+returns-in-Err-clause-cause g c =
+    (HasRead-there _ _ _ _ _ _ _ c.pieces.invariant.0 c.pieces.invariant.1 _ _ _ c.in-Ok.ensures.read, c.in-Ok.ensures.cause ∙ c.pieces.invariant.0.still)
 
 pub pieces-preserved : goal.pieces-preserved
 pieces-preserved g c =

@@ -21,7 +21,7 @@ returns-clause-ok g c =
 pub returns-clause-cause : goal.returns-clause-cause
 returns-clause-cause g c =
     let names : Names = record { image = c.args.image.now; script = c.args.script.now; disk = option_copied c.args.disk } in
-    judged_err c.args.ram_kib (g.F.Files.content c.args.files.now) names (bytes_of c.in-Ok.bytes) c.in-Ok.ensures.ok (g.F.Files.faults c.args.files.now) (g.F.Files.faults c.read_bytes.new.files) c.judge.result c.judge.ensures.judged
+    judged_err c.args.ram_kib (g.F.Files.content c.args.files.now) names (bytes_of c.in-Ok.bytes) c.in-Ok.ensures.ok (g.F.Files.faults c.args.files.now) (g.F.Files.faults c.read_bytes.new.files) c.judge.result c.in-Ok.ensures.still c.judge.ensures.judged
 
 pub returns-clause-disk : goal.returns-clause-disk
 returns-clause-disk g c =
