@@ -5,7 +5,6 @@ use Rattle.after_edge.specs.Sink.{Telling}
 use Rattle.command_words.specs.declared.fault.WordsFault.{WordsFault}
 use Rattle.command_words.specs.Jobs.{RunJob, Run}
 use Rattle.command_words.specs.Jobs as words
-use Rattle.job_model.specs.Job.{Job}
 use Rattle.refusals.specs.declared.refusal.Refusal.{Refusal}
 use Rattle.refusals.specs.declared.refusal.Refusal.TheVariants.{NoMemory}
 use Rattle.run_inputs.specs.Files.{Comes}

@@ -1,5 +1,5 @@
 //! The top call, and what it answers.
-ghost use Rattle.std.specs.Prelude.{◌≡◌, ◌+◌, ◌↔◌, List, ℕ, Some, None, IfOk, MatchResult, length, map, string_bytes, unwrap_or};
+ghost use Rattle.std.specs.Prelude.{◌≡◌, ◌+◌, ◌*◌, ◌≤◌, ◌↔◌, List, ℕ, Some, None, IfOk, MatchResult, length, map, string_bytes, unwrap_or};
 ghost use Rattle.after_edge.specs.Fault.{Rose};
 ghost use Rattle.after_edge.specs.Files.{Contents};
 ghost use Rattle.command_words.specs.Jobs.{first_bad_in, job_in};
@@ -8,7 +8,12 @@ ghost use Rattle.command_words.specs.Sound.{IsSoundRun};
 ghost use Rattle.command_words.specs.Says.{run_said};
 ghost use Rattle.refusals.specs.Lines.{output_failed_line, refusal_line};
 ghost use Rattle.refusals.specs.Status.{status_of};
-ghost use Rattle.after_cli.specs.Asked.{AreNoJob, AskForNoRun, AsksForMore, IsAsked, IsNoRun};
+ghost use Rattle.format_model.specs.ImageFile.{ImageFits};
+ghost use Rattle.machine_model.specs.Board.{AreMarked, IsPlayable};
+ghost use Rattle.run_inputs.specs.Given.{disk_max};
+ghost use Rattle.run_inputs.specs.Read.{given_by};
+ghost use Rattle.after_cli.specs.Asked.{AreNoJob, AskForNoRun, AsksForMore, IsAsked, IsNoRun, job_for};
+ghost use Rattle.after_cli.specs.JobEnds.{JobEnds};
 ghost use Rattle.after_cli.specs.Ends.{Ends, TellsLine};
 ghost use Rattle.after_cli.specs.Exact.{IsRight};
 ghost use Rattle.after_cli.specs.Means.{Concludes, ShowsText, Means};
@@ -17,8 +22,9 @@ use crate::running::{JobEnd, run_job};
 use after_edge::{Failed, Files, Sink};
 use command_words::{Command, RunWords, WordsFault, first_bad_before, read_words};
 use guard_run::{Closing, RunJob};
+use memory_map::NoMemory;
 use refusals::{Refusal, output_failed};
-use run_inputs::read_inputs;
+use run_inputs::{Inputs, read_inputs};
 use std::alloc::Global;
 
 /// What a call of the program comes to.
@@ -51,6 +57,31 @@ fn asked_run(words: &[String]) -> Result<RunWords<'_>, Refusal>
     }
 }
 
+// Runs what words ask for, of what its files give, by the turns that they name.
+fn run_asked<O: Sink>(
+    alloc: Global,
+    run: &RunWords<'_>,
+    inputs: Inputs,
+    out: &mut O,
+) -> Result<JobEnd, NoMemory>
+    requires asked { IsSoundRun (run_said run.now) }
+    requires fits { ImageFits (1024 * run.now.ram_kib) inputs.image }
+    requires playable { IsPlayable inputs.script }
+    requires marked { AreMarked inputs.script.entries }
+    requires disk { length inputs.disk.items ≤ disk_max }
+    ensures { JobEnds O.told out.old out.new (job_for (run_said run.now) (given_by inputs))
+        run.now.turns result }
+{
+    let job = RunJob {
+        ram_kib: run.ram_kib,
+        limit: run.limit,
+        cap: run.log,
+        kinds: run.kinds,
+        required: run.required,
+    };
+    run_job(alloc, &job, run.turns.letters(), inputs, out)
+}
+
 // Reads the files of a run and runs it.
 fn answer_run<F: Files, O: Sink>(
     alloc: Global,
@@ -68,14 +99,7 @@ fn answer_run<F: Files, O: Sink>(
         Ok(inputs) => inputs,
         Err(fault) => return Err(Refusal::Inputs(fault)),
     };
-    let job = RunJob {
-        ram_kib: run.ram_kib,
-        limit: run.limit,
-        cap: run.log,
-        kinds: run.kinds,
-        required: run.required,
-    };
-    match run_job(alloc, &job, run.turns.letters(), inputs, out) {
+    match run_asked(alloc, run, inputs, out) {
         Ok(end) => Ok(end),
         Err(_) => Err(Refusal::NoMemory),
     }
