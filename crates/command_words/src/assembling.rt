@@ -1,5 +1,5 @@
 //! Commands, made of the words that were read.
-ghost use Rattle.std.specs.Prelude.{◌≡◌, [], length, option_copied, option_map};
+ghost use Rattle.std.specs.Prelude.{◌≡◌, ◌||◌, [], length, nat_lt, not, option_copied, option_map};
 ghost use Rattle.std.specs.List.{list_all};
 ghost use Rattle.run_settings.specs.Kinds.{has_kind};
 ghost use Rattle.command_words.specs.Drafts.{held, plain_held, seen};
@@ -146,12 +146,19 @@ fn are_among(kinds: &Kinds, others: &Kinds) -> bool
     true
 }
 
+// Whether turns that are a pattern, or none, do not go with so many threads.
+fn are_crossed(threads: u32, is_pattern: bool) -> bool
+    ensures { result ≡ (nat_lt 0 threads || not is_pattern) }
+{
+    threads > 0 || !is_pattern
+}
+
 // Whether turns are given for threads, or they are no pattern for the chosen analyses.
 #[tactic(auto, unfolding(crate::specs::Jobs::crossed_turns))]
 fn crossed_turns(draft: &Draft<'_>) -> bool
     ensures { result ≡ crossed_turns (held draft.now) }
 {
-    threads(draft) > 0 || !turns(draft).is_pattern(chosen(draft).len())
+    are_crossed(threads(draft), turns(draft).is_pattern(chosen(draft).len()))
 }
 
 // The number of an option's value, where it stands and does not go with the others.

@@ -1,5 +1,5 @@
 //! The hart on small programs, whose values are worked by hand from the manuals.
-ghost use Rattle.std.specs.Prelude.{◌≡◌, ◌*◌, [], IfOk, is_some, length};
+ghost use Rattle.std.specs.Prelude.{◌≡◌, ◌≤◌, ◌*◌, [], IfOk, is_some, length};
 ghost use Rattle.any_machine.specs.Machine.{is_load};
 
 use crate::Cpu;
@@ -11,6 +11,15 @@ use std::test::Fail;
 
 const WORD: u32 = 0x8000_0100;
 
+// Writes a word where RAM holds the address.
+fn place(ram: &mut Ram, address: u32, word: u32)
+    ensures { length ram.new ≡ length ram.old }
+{
+    if ram.holds(address, 4) {
+        ram.store(address, 4, word);
+    }
+}
+
 // A hart at the first of these words.
 fn hart_of(alloc: Global, words: &[u32]) -> Result<Cpu, NoMemory>
     ensures { IfOk result (λ cpu. length cpu.ram ≡ 1024 * 64) }
@@ -18,9 +27,7 @@ fn hart_of(alloc: Global, words: &[u32]) -> Result<Cpu, NoMemory>
     let mut ram = Ram::new(alloc, 64)?;
     let mut address = RAM_START;
     for word in words {
-        if ram.holds(address, 4) {
-            ram.store(address, 4, *word);
-        }
+        place(&mut ram, address, *word);
         address = address.wrapping_add(4);
     }
     Ok(Cpu::new(ram, RAM_START))
@@ -115,28 +122,31 @@ fn trapped(alloc: Global, word: u32, reader: u32) -> Result<u32, NoMemory> {
     x7_after(alloc, &words, 6)
 }
 
+// csrrs x7 of mcause, mtval and mepc
+const MCAUSE: u32 = 0x3420_23f3;
+
+const MTVAL: u32 = 0x3430_23f3;
+
+const MEPC: u32 = 0x3410_23f3;
+
 #[test]
 fn traps_with_cause_value_and_pc(rt: HostRuntime) -> Result<(), Fail> {
-    // csrrs x7 of mcause, mtval and mepc
-    let [mcause, mtval, mepc] = [0x3420_23f3, 0x3430_23f3, 0x3410_23f3];
     let cases = [
-        (0x0000_0000, 2, 0, "no instruction"),
-        (0x0000_0073, 11, 0, "ecall"),
-        (0x0022_a383, 4, 0x8000_0002, "lw at a half"),
-        (0x0032_83e7, 0, 0x8000_0002, "jalr to a half"),
+        (0x0000_0000, MCAUSE, 2, "cause of no instruction"),
+        (0x0000_0000, MTVAL, 0, "value of no instruction"),
+        (0x0000_0000, MEPC, 0x8000_0010, "pc of no instruction"),
+        (0x0000_0073, MCAUSE, 11, "cause of ecall"),
+        (0x0000_0073, MTVAL, 0, "value of ecall"),
+        (0x0000_0073, MEPC, 0x8000_0010, "pc of ecall"),
+        (0x0022_a383, MCAUSE, 4, "cause of lw at a half"),
+        (0x0022_a383, MTVAL, 0x8000_0002, "value of lw at a half"),
+        (0x0022_a383, MEPC, 0x8000_0010, "pc of lw at a half"),
+        (0x0032_83e7, MCAUSE, 0, "cause of jalr to a half"),
+        (0x0032_83e7, MTVAL, 0x8000_0002, "value of jalr to a half"),
+        (0x0032_83e7, MEPC, 0x8000_0010, "pc of jalr to a half"),
     ];
-    for (word, cause, value, name) in cases {
-        assert_eq!(rt;
-            trapped(rt.alloc(), word, mcause)?,
-            cause,
-            "cause of {name}"
-        );
-        assert_eq!(rt; trapped(rt.alloc(), word, mtval)?, value, "value of {name}");
-        assert_eq!(rt;
-            trapped(rt.alloc(), word, mepc)?,
-            0x8000_0010,
-            "pc of {name}"
-        );
+    for (word, reader, value, name) in cases {
+        assert_eq!(rt; trapped(rt.alloc(), word, reader)?, value, "{name}");
     }
     Ok(())
 }
@@ -208,28 +218,34 @@ impl Watcher for Counter {
     }
 }
 
+// Shows the plain steps below a number of: addi x5, x0, 7; addi x5, x5, 7; ecall. Answers the steps done, the events
+// seen, the last pc seen, x5 and the pc.
+fn shown_below(alloc: Global, number: u32) -> Result<[u32; 5], NoMemory>
+    requires { number ≤ 9 }
+{
+    let words = [0x0070_0293, 0x0072_8293, 0x0000_0073];
+    let mut cpu = hart_of(alloc, &words)?;
+    let mut counter = Counter { events: 0, pc: 0 };
+    cpu.run_shown(0, number, &mut counter);
+    Ok([
+        cpu.steps(),
+        counter.events,
+        counter.pc,
+        cpu.register(5),
+        cpu.pc(),
+    ])
+}
+
 #[test]
 fn shows_plain_steps_alone(rt: HostRuntime) -> Result<(), Fail> {
-    // addi x5, x0, 7; addi x5, x5, 7; ecall
-    let words = [0x0070_0293, 0x0072_8293, 0x0000_0073];
-    // each with the number below which steps are done, the steps done, the last pc seen and x5
     let cases = [
-        (0, 0, 0, 0),
-        (1, 1, 0x8000_0000, 7),
-        (2, 2, 0x8000_0004, 14),
-        (9, 2, 0x8000_0004, 14),
+        (0, [0, 0, 0, 0, 0x8000_0000]),
+        (1, [1, 1, 0x8000_0000, 7, 0x8000_0004]),
+        (2, [2, 2, 0x8000_0004, 14, 0x8000_0008]),
+        (9, [2, 2, 0x8000_0004, 14, 0x8000_0008]),
     ];
-    for (number, steps, pc, value) in cases {
-        let mut cpu = hart_of(rt.alloc(), &words)?;
-        let mut counter = Counter { events: 0, pc: 0 };
-        cpu.run_shown(0, number, &mut counter);
-        assert_eq!(rt;
-            (cpu.steps(), counter.events, counter.pc),
-            (steps, steps, pc),
-            "{number}"
-        );
-        assert_eq!(rt; cpu.register(5), value, "{number}");
-        assert_eq!(rt; cpu.pc(), RAM_START + 4 * steps, "{number}");
+    for (number, shown) in cases {
+        assert_eq!(rt; shown_below(rt.alloc(), number)?, shown, "{number}");
     }
     Ok(())
 }
