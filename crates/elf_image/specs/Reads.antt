@@ -1,5 +1,5 @@
 -- What a reader answers, against what the definition of an image file gives.
-use Rattle.std.specs.Prelude.{◌≡◌, Result, Ok, Err}
+use Rattle.std.specs.Prelude.{◌≡◌, ℕ, ◌*◌, ◌≤◌, MatchBool, List, length, Result, Ok, Err}
 use Rattle.elf_image.specs.declared.fault.ImageFault.{ImageFault}
 use Rattle.elf_image.specs.declared.fault.ImageFault.TheVariants as fault
 use Rattle.format_model.specs.ImageFile as model
@@ -20,3 +20,20 @@ Refuses fault.NoMemory read = Unit {0}
 abbrev pub Gives : {X Y : Type 0} → (X → Y) → Result X ImageFault → Result Y model.Fault → Type 0
 Gives view (Ok x) read = read ≡ Ok (view x)
 Gives view (Err e) read = Refuses e read
+
+-- where there was no memory, this holds
+abbrev pub IfNoMemory : {X : Type 0} → Result X ImageFault → Type 0 → Type 0
+IfNoMemory (Err fault.NoMemory) P = P
+IfNoMemory result P = Unit {0}
+
+-- the header of a file is that of an executable, and its table stands in the file
+pub record HasTable (file : List ℕ) : Type 0 where
+  pub long : 52 ≤ length file
+  pub kind : model.kind_in file ≡ Ok tt
+  pub table : model.Table
+  pub table_is : model.table_in file ≡ Ok table
+
+-- what is found without memory is right: header and table, or that a file without a header is not too long for its RAM
+abbrev pub IsBegun : ℕ → List ℕ → Type 0
+IsBegun ram_kib file =
+    MatchBool (model.is_elf file) (HasTable file) (length file ≤ 1024 * ram_kib)

@@ -2,7 +2,7 @@
 ghost use Rattle.std.specs.Prelude.{◌≡◌, ◌+◌, ◌*◌, ◌≤◌, [], length, map, take, drop, IfOk, option_to_list};
 ghost use Rattle.format_model.specs.ImageFile.{field_at, is_elf, kind_in, table_in, load_at, loads_at, with_front, share, first_shared, overlap_after, image_at, elf_in};
 ghost use Rattle.memory_map.specs.Ram.{in_ram};
-ghost use Rattle.elf_image.specs.Reads.{Gives};
+ghost use Rattle.elf_image.specs.Reads.{Gives, HasTable, IfNoMemory};
 
 use crate::fault::ImageFault;
 use crate::image::{Image, Segment};
@@ -61,7 +61,8 @@ fn in_ram(size: u32, address: u32, width: u32) -> bool
 #[tactic(auto, unfolding(format_model::specs::ImageFile::kind_in))]
 fn kind_in(file: &[u8]) -> Result<(), ImageFault>
     requires { 52 ≤ length file.now }
-    ensures { Gives (λ k. k) result (kind_in file.now) }
+    ensures kind { Gives (λ k. k) result (kind_in file.now) }
+    ensures memory { IfNoMemory result ⊥ }
 {
     if byte_at(file, 4) != 1 {
         return Err(ImageFault::NotThis { field: 4 });
@@ -94,6 +95,7 @@ fn table_in(file: &[u8]) -> Result<Table, ImageFault>
     ensures table { Gives (λ t. record { start = t.start; count = t.count }) result
         (table_in file.now) }
     ensures within { IfOk result (λ t. t.start + 32 * t.count ≤ length file.now) }
+    ensures memory { IfNoMemory result ⊥ }
 {
     let count = half_at(file, 44);
     if count == 0 {
@@ -297,7 +299,8 @@ fn image_at(alloc: Global, file: &[u8], size: u32, loads: &[Load]) -> Result<Ima
 // The image of a file with a header, for a RAM of so many bytes.
 #[tactic(auto, unfolding(format_model::specs::ImageFile::elf_in))]
 pub(crate) fn elf_in(alloc: Global, file: &[u8], size: u32) -> Result<Image, ImageFault>
-    ensures { Gives (λ i. i) result (elf_in size file.now) }
+    ensures exact { Gives (λ i. i) result (elf_in size file.now) }
+    ensures memory { IfNoMemory result (HasTable file.now) }
 {
     if file.len() < FILE_HEADER_SIZE {
         return Err(ImageFault::Short { need: 52 });

@@ -2,7 +2,7 @@
 ghost use Rattle.memory_map.specs.declared.TheConstants.{LEAST_RAM_KIB, MOST_RAM_KIB};
 ghost use Rattle.std.specs.Prelude.{◌*◌, ◌≤◌, IfOk};
 ghost use Rattle.format_model.specs.ImageFile.{image_in, ImageFits};
-ghost use Rattle.elf_image.specs.Reads.{Gives};
+ghost use Rattle.elf_image.specs.Reads.{Gives, IfNoMemory, IsBegun};
 
 use crate::elf::{elf_in, is_elf};
 use crate::fault::ImageFault;
@@ -13,7 +13,8 @@ use std::alloc::Global;
 #[tactic(auto, unfolding(format_model::specs::ImageFile::image_in))]
 fn image_in(alloc: Global, file: &[u8], ram_kib: u32) -> Result<Image, ImageFault>
     requires { ram_kib ≤ MOST_RAM_KIB }
-    ensures { Gives (λ i. i) result (image_in ram_kib file.now) }
+    ensures exact { Gives (λ i. i) result (image_in ram_kib file.now) }
+    ensures memory { IfNoMemory result (IsBegun ram_kib file.now) }
 {
     let size = 1024 * ram_kib;
     if is_elf(file) {
@@ -35,6 +36,8 @@ pub fn read(alloc: Global, bytes: &[u8], ram_kib: u32) -> Result<Image, ImageFau
     requires most { ram_kib ≤ MOST_RAM_KIB }
     // The image or the first fault, unless there is no memory.
     ensures exact { Gives (λ i. i) result (image_in ram_kib bytes.now) }
+    // Memory is asked for only once header and table are right, or a file without a header is not too long.
+    ensures memory { IfNoMemory result (IsBegun ram_kib bytes.now) }
     // The image can be loaded into such a RAM.
     ensures fits { IfOk result (λ i. ImageFits (1024 * ram_kib) i) }
 {

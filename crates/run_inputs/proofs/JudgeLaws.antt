@@ -25,28 +25,28 @@ image_bad : (ram_kib : ℕ) (bytes : Bytes) (k : image_model.Fault) → image_mo
 unfolding given_in
 image_bad ram_kib bytes k is = rw is refl
 
-pub image_judged : (ram_kib : ℕ) (bytes : Bytes) (e : ImageFault) → elf.Refuses e (image_model.image_in ram_kib bytes.image) → IsJudgedAs (given_in ram_kib bytes) (Err (of_image e))
-image_judged ram_kib bytes (image.Short need) is = (image_model.Short need, refl, image_bad ram_kib bytes _ is)
-image_judged ram_kib bytes (image.NotThis field) is = (image_model.NotThis field, refl, image_bad ram_kib bytes _ is)
-image_judged ram_kib bytes image.BadTable is = (image_model.BadTable, refl, image_bad ram_kib bytes _ is)
-image_judged ram_kib bytes (image.SegmentShape index) is = (image_model.SegmentShape index, refl, image_bad ram_kib bytes _ is)
-image_judged ram_kib bytes (image.SegmentOutside index) is = (image_model.SegmentOutside index, refl, image_bad ram_kib bytes _ is)
-image_judged ram_kib bytes (image.Overlap first second) is = (image_model.Overlap first second, refl, image_bad ram_kib bytes _ is)
-image_judged ram_kib bytes image.NoSegment is = (image_model.NoSegment, refl, image_bad ram_kib bytes _ is)
-image_judged ram_kib bytes image.EntryOutside is = (image_model.EntryOutside, refl, image_bad ram_kib bytes _ is)
-image_judged ram_kib bytes image.NoMemory is = tt
+pub image_judged : (ram_kib : ℕ) (bytes : Bytes) (e : ImageFault) → elf.Refuses e (image_model.image_in ram_kib bytes.image) → elf.IfNoMemory {X = Image} (Err e) (elf.IsBegun ram_kib bytes.image) → IsJudgedAs ram_kib bytes (Err (of_image e))
+image_judged ram_kib bytes (image.Short need) is begun = (image_model.Short need, refl, image_bad ram_kib bytes _ is)
+image_judged ram_kib bytes (image.NotThis field) is begun = (image_model.NotThis field, refl, image_bad ram_kib bytes _ is)
+image_judged ram_kib bytes image.BadTable is begun = (image_model.BadTable, refl, image_bad ram_kib bytes _ is)
+image_judged ram_kib bytes (image.SegmentShape index) is begun = (image_model.SegmentShape index, refl, image_bad ram_kib bytes _ is)
+image_judged ram_kib bytes (image.SegmentOutside index) is begun = (image_model.SegmentOutside index, refl, image_bad ram_kib bytes _ is)
+image_judged ram_kib bytes (image.Overlap first second) is begun = (image_model.Overlap first second, refl, image_bad ram_kib bytes _ is)
+image_judged ram_kib bytes image.NoSegment is begun = (image_model.NoSegment, refl, image_bad ram_kib bytes _ is)
+image_judged ram_kib bytes image.EntryOutside is begun = (image_model.EntryOutside, refl, image_bad ram_kib bytes _ is)
+image_judged ram_kib bytes image.NoMemory is begun = inl begun
 
 -- the script's fault is, after an image
 script_bad : (ram_kib : ℕ) (bytes : Bytes) (i : Image) (k : ℕ × script_model.Broken) → image_model.image_in ram_kib bytes.image ≡ Ok i → script_model.script_in bytes.script ≡ Err k → given_in ram_kib bytes ≡ Err (BadScript k)
 unfolding given_in
 script_bad ram_kib bytes i k image_is is = rw (image_is, is) refl
 
-pub script_judged : (ram_kib : ℕ) (bytes : Bytes) (i : Image) (e : ScriptFault) → image_model.image_in ram_kib bytes.image ≡ Ok i → lines.RefusesAt e (script_model.script_in bytes.script) → IsJudgedAs (given_in ram_kib bytes) (Err (of_script e))
+pub script_judged : (ram_kib : ℕ) (bytes : Bytes) (i : Image) (e : ScriptFault) → image_model.image_in ram_kib bytes.image ≡ Ok i → lines.RefusesAt e (script_model.script_in bytes.script) → IsJudgedAs ram_kib bytes (Err (of_script e))
 script_judged ram_kib bytes i (script.BadLine line) image_is is = ((line, script_model.BadLine), refl, script_bad ram_kib bytes i _ image_is is)
 script_judged ram_kib bytes i (script.BadNumber line) image_is is = ((line, script_model.BadNumber), refl, script_bad ram_kib bytes i _ image_is is)
 script_judged ram_kib bytes i (script.Falling line) image_is is = ((line, script_model.Falling), refl, script_bad ram_kib bytes i _ image_is is)
 script_judged ram_kib bytes i (script.TooMany line) image_is is = ((line, script_model.TooMany), refl, script_bad ram_kib bytes i _ image_is is)
-script_judged ram_kib bytes i script.NoMemory image_is is = tt
+script_judged ram_kib bytes i script.NoMemory image_is is = inr (i, image_is)
 
 module _ (ram_kib : ℕ) (content : Option Contents) (names : Names) where
   -- a file's fault is one of the whole
@@ -72,11 +72,11 @@ module _ (ram_kib : ℕ) (content : Option Contents) (names : Names) where
     unfolding inputs_in
     judged_on answer is = record { found = read.found; are = read.are; gives = rw read.gives is }
 
-    pub judged_ok : (r : Result Inputs InputFault) → IsJudgedAs (given_in ram_kib bytes) r → IfOk r (λ inputs. Comes (inputs_in ram_kib) content names (Ok (given_by inputs)))
+    pub judged_ok : (r : Result Inputs InputFault) → IsJudgedAs ram_kib bytes r → IfOk r (λ inputs. Comes (inputs_in ram_kib) content names (Ok (given_by inputs)))
     judged_ok (Ok inputs) is = judged_on _ is
     judged_ok (Err e) is = tt
 
-    judge_gives : (told : InputFault) → IsJudgedAs (given_in ram_kib bytes) (Err told) → GivesFault (inputs_in ram_kib) content names told
+    judge_gives : (told : InputFault) → IsJudgedAs ram_kib bytes (Err told) → GivesFault (inputs_in ram_kib) content names told
     judge_gives fault.Files is = absurd is
     judge_gives fault.ImageTooLong is = absurd is
     judge_gives fault.ScriptTooLong is = absurd is
@@ -85,7 +85,7 @@ module _ (ram_kib : ℕ) (content : Option Contents) (names : Names) where
     judge_gives (fault.Script e) (k, named, is) = (k, named, judged_on _ is)
     judge_gives fault.NoMemory is = image_there content names bytes read
 
-    pub judged_err : (before now : ℕ) (r : Result Inputs InputFault) → now ≡ before → IsJudgedAs (given_in ram_kib bytes) r → IfErr r (HasCause (inputs_in ram_kib) content names before now)
+    pub judged_err : (before now : ℕ) (r : Result Inputs InputFault) → now ≡ before → IsJudgedAs ram_kib bytes r → IfErr r (HasCause (inputs_in ram_kib) content names before now)
     judged_err before now (Ok inputs) still is = tt
     judged_err before now (Err told) still is = inr (still, judge_gives told is)
 

@@ -2,6 +2,8 @@
 use Rattle.std.specs.Prelude.{◌≡◌, ◌⊎◌, ℕ, ◌<◌, List, length, Option, Some, None, IsSome, Result, Ok, Err}
 use Rattle.after_edge.specs.Fault.{Rose}
 use Rattle.after_edge.specs.Files.{Contents, IsThere}
+use Rattle.elf_image.specs.Reads.{IsBegun}
+use Rattle.machine_model.specs.Image.{Image}
 use Rattle.format_model.specs.ImageFile as image_model
 use Rattle.format_model.specs.ScriptReading as script_model
 use Rattle.run_inputs.specs.declared.fault.InputFault.{InputFault}
@@ -10,7 +12,7 @@ use Rattle.run_inputs.specs.declared.inputs.Inputs.{Inputs}
 use Rattle.run_inputs.specs.declared.reading.FileBytes.{FileBytes}
 use Rattle.run_inputs.specs.Faults.{image_fault, script_fault}
 use Rattle.run_inputs.specs.Files.{IsFound}
-use Rattle.run_inputs.specs.Given.{Bytes, Given, Refusal, BadImage, BadScript, disk_max}
+use Rattle.run_inputs.specs.Given.{Bytes, Given, BadImage, BadScript, disk_max, given_in}
 
 -- the values of what is returned
 abbrev pub given_by : Inputs → Given
@@ -51,12 +53,20 @@ IsDiskRefused content None before now told = ⊥
 IsDiskRefused content (Some name) before now told =
     IsFileRefused content name disk_max fault.DiskTooLong before now told
 
--- what is judged is what the definition gives, unless there was no memory
-abbrev pub IsJudgedAs : Result Given Refusal → Result Inputs InputFault → Type 0
-IsJudgedAs judged (Ok inputs) = judged ≡ Ok (given_by inputs)
-IsJudgedAs judged (Err (fault.Image e)) =
-    (k : image_model.Fault) × (image_fault e ≡ Some k) × (judged ≡ Err (BadImage k))
-IsJudgedAs judged (Err (fault.Script e)) =
-    (k : ℕ × script_model.Broken) × (script_fault e ≡ Some k) × (judged ≡ Err (BadScript k))
-IsJudgedAs judged (Err fault.NoMemory) = Unit {0}
-IsJudgedAs judged _ = ⊥
+-- Memory is asked for only for an image whose header and table are right, or for a script beside an image that is right.
+abbrev pub MayLackMemory : ℕ → Bytes → Type 0
+MayLackMemory ram_kib bytes =
+    IsBegun ram_kib bytes.image
+    ⊎ ((image : Image) × (image_model.image_in ram_kib bytes.image ≡ Ok image))
+
+-- what is judged is what the definition gives for a RAM of so many KiB, unless there was no memory
+abbrev pub IsJudgedAs : ℕ → Bytes → Result Inputs InputFault → Type 0
+IsJudgedAs ram_kib bytes (Ok inputs) = given_in ram_kib bytes ≡ Ok (given_by inputs)
+IsJudgedAs ram_kib bytes (Err (fault.Image e)) =
+    (k : image_model.Fault) × (image_fault e ≡ Some k)
+    × (given_in ram_kib bytes ≡ Err (BadImage k))
+IsJudgedAs ram_kib bytes (Err (fault.Script e)) =
+    (k : ℕ × script_model.Broken) × (script_fault e ≡ Some k)
+    × (given_in ram_kib bytes ≡ Err (BadScript k))
+IsJudgedAs ram_kib bytes (Err fault.NoMemory) = MayLackMemory ram_kib bytes
+IsJudgedAs ram_kib bytes _ = ⊥

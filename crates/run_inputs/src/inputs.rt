@@ -5,7 +5,7 @@ ghost use Rattle.format_model.specs.ImageFile.{ImageFits};
 ghost use Rattle.machine_model.specs.Board.{AreMarked, IsPlayable};
 ghost use Rattle.run_inputs.specs.Faults.{HasCause};
 ghost use Rattle.run_inputs.specs.Files.{Comes};
-ghost use Rattle.run_inputs.specs.Given.{disk_max, given_in, inputs_in, script_max};
+ghost use Rattle.run_inputs.specs.Given.{disk_max, inputs_in, script_max};
 ghost use Rattle.run_inputs.specs.Read.{IsJudgedAs, bytes_of, given_by};
 
 use crate::InputFault;
@@ -29,7 +29,7 @@ fn judge(alloc: Global, bytes: FileBytes, ram_kib: u32) -> Result<Inputs, InputF
     requires least { LEAST_RAM_KIB ≤ ram_kib }
     requires most { ram_kib ≤ MOST_RAM_KIB }
     requires short { length bytes.script.items ≤ script_max }
-    ensures judged { IsJudgedAs (given_in ram_kib (bytes_of bytes)) result }
+    ensures judged { IsJudgedAs ram_kib (bytes_of bytes) result }
     ensures fits { IfOk result (λ inputs. ImageFits (1024 * ram_kib) inputs.image) }
     ensures playable { IfOk result (λ inputs. IsPlayable inputs.script) }
     ensures marked { IfOk result (λ inputs. AreMarked inputs.script.entries) }

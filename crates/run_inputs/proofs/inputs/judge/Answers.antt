@@ -4,7 +4,7 @@ use Rattle.run_inputs.proofs.ScriptPlays.{script_plays, script_marked}
 use Rattle.run_inputs.proofs.inputs.judge.Goals as goal
 
 pub returns-in-Err-clause-judged : goal.returns-in-Err-clause-judged
-returns-in-Err-clause-judged c = rw c.of_image.ensures (image_judged c.args.ram_kib (bytes_of c.args.bytes) c.in-Err.fault (rw c.deref.ensures.value at c.in-Err.ensures.exact))
+returns-in-Err-clause-judged c = rw c.of_image.ensures (image_judged c.args.ram_kib (bytes_of c.args.bytes) c.in-Err.fault (rw c.deref.ensures.value at c.in-Err.ensures.exact) (rw c.deref.ensures.value at c.in-Err.ensures.memory))
 
 pub returns-in-Err-parse-clause-judged : goal.returns-in-Err-parse-clause-judged
 returns-in-Err-parse-clause-judged c =
