@@ -65,5 +65,6 @@ pub trait Hart {
     ghost counts: { CountsSteps machine done };
 
     /// What RAM holds depends on its size alone.
-    ghost sized: { (s t : Self) (address : ℕ) → ram_size s ≡ ram_size t → machine.holds s address ≡ machine.holds t address };
+    ghost sized: { (s t : Self) (address : ℕ) → ram_size s ≡ ram_size t
+        → machine.holds s address ≡ machine.holds t address };
 }

@@ -1,15 +1,10 @@
 -- What holds of all items of a list, item by item; and what a test keeps of a list of which it says the same everywhere.
-use Rattle.std.proofs.Common.{◌≡◌, zero, suc, Bool, true, false, cond, List, [], ◌∷◌, ◌++◌, refl, sym, ap, subst, ◌∙◌, arith}
-use Rattle.std.specs.List.{filter, All, AllByRecursion}
+use Rattle.std.proofs.Common.{◌≡◌, Bool, true, false, cond, List, [], ◌∷◌, ◌++◌, refl, sym, ap, subst, ◌∙◌}
+use Rattle.std.specs.List.{filter, AllByRecursion}
 
 pub all_append : {X : Type 0} (P : X → Type 0) (xs ys : List X) → AllByRecursion P xs → AllByRecursion P ys → AllByRecursion P (xs ++ ys)
 all_append P [] ys here there = there
 all_append P (x ∷ xs) ys here there = (here.0, all_append P xs ys here.1 there)
-
--- what holds at each place holds of each item
-pub each_item : {X : Type 0} (P : X → Type 0) (xs : List X) → All P xs → AllByRecursion P xs
-each_item P [] all = tt
-each_item P (x ∷ xs) all = (all zero x (omega arith), each_item P xs (λ k d less. all (suc k) d (omega (arith, less))))
 
 -- each item that has the one has the other
 pub all_through : {X : Type 0} {P Q : X → Type 0} → ((x : X) → P x → Q x) → (xs : List X) → AllByRecursion P xs → AllByRecursion Q xs

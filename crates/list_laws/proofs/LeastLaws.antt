@@ -1,8 +1,8 @@
 -- The least number of a range that has a property, found step by step.
-use Rattle.std.proofs.Common.{◌≡◌, ◌⊎◌, ℕ, zero, suc, ◌+◌, ◌-◌, ◌<◌, ◌≤◌, Bool, true, false, cond, Option, None, Some, refl, sym, ap, ◌∙◌, arith}
+use Rattle.std.proofs.Common.{◌≡◌, ◌⊎◌, ℕ, zero, suc, ◌+◌, ◌<◌, ◌≤◌, Bool, true, false, cond, None, Some, refl, sym, ap, ◌∙◌, arith}
 use Rattle.std.specs.Option.{option_map}
 use Rattle.std.proofs.lemmas.Bool.Decides.{nat_tests}
-use Rattle.list_laws.specs.Least.{is_between, least_from, least_between}
+use Rattle.list_laws.specs.Least.{is_between, least_from}
 
 -- this holds of each of so many numbers from one on
 abbrev pub EachFrom : (ℕ → Type 0) → ℕ → ℕ → Type 0
