@@ -13,7 +13,7 @@ use Rattle.run_events.specs.declared.record.Record.TheVariants.{Reach, End}
 use Rattle.run_events.specs.Event.{step_of}
 use Rattle.any_machine.specs.Machine.{Turn, serial_byte}
 use Rattle.any_machine.specs.Run.{Finished, events_in, events_of}
-use Rattle.any_machine.specs.Log.{plain_item, word_record, lines_records, load_records, reach_records, reach_items, input_records, turn_records, turn_items, turns_log, turns_items, log, items, byte_of, bytes_of, output}
+use Rattle.any_machine.specs.Log.{plain_item, word_record, lines_records, load_records, reach_records, reach_items, input_records, turn_records, turn_items, turns_log, turns_items, log, items, byte_of, bytes_of, output, SentByte, sent_at}
 use Rattle.any_machine.proofs.NumberLaws.{IsWordAt, TurnStands, TurnsStand}
 
 -- the records of plain items, which let no byte go
@@ -52,27 +52,27 @@ pub items-log : (run : Finished) → map (λ item. item.item) (items run) ≡ lo
 items-log run =
     map-append (λ (item : Item). item.item) (turns_items 0 0 run.turns) (plain_item (End run.steps run.cause) ∷ []) ∙ ap (λ l. l ++ End run.steps run.cause ∷ []) (turns_record 0 0 run.turns)
 
--- the byte that an event sends, with its step
-abbrev byte_sent : Event → Option (ℕ × ℕ)
-byte_sent event = option_map (λ byte. (step_of event, byte)) (serial_byte event)
+-- the byte that an event sends
+abbrev byte_sent : Event → Option SentByte
+byte_sent event = option_map (sent_at (step_of event)) (serial_byte event)
 
 -- a mark lets the byte go that its step sent
-reach_byte : (n : ℕ) (o : Option ℕ) (b : Bool) → bytes_of (cond (is_some o || b) (record { item = Reach (suc n); byte = o } ∷ []) []) ≡ cons_option (option_map (λ byte. (n, byte)) o) []
+reach_byte : (n : ℕ) (o : Option ℕ) (b : Bool) → bytes_of (cond (is_some o || b) (record { item = Reach (suc n); byte = o } ∷ []) []) ≡ cons_option (option_map (sent_at n) o) []
 reach_byte n (Some byte) b =
     let back : suc n - 1 ≡ n = omega arith in
-    ap (λ k. (k, byte) ∷ []) back
+    ap (λ k. sent_at k byte ∷ []) back
 reach_byte n None true = refl
 reach_byte n None false = refl
 
 -- words send nothing
 words_silent : (n : ℕ) (writes : List Event) → AllByRecursion (IsWordAt n) writes → output writes ≡ []
 words_silent n [] all = refl
-words_silent n (event ∷ writes) all = ap (λ o. cons_option (option_map (λ byte. (step_of event, byte)) o) (output writes)) (all.0.silent SERIAL_DATA) ∙ words_silent n writes all.1
+words_silent n (event ∷ writes) all = ap (λ o. cons_option (option_map (sent_at (step_of event)) o) (output writes)) (all.0.silent SERIAL_DATA) ∙ words_silent n writes all.1
 
 turn_bytes : (n held : ℕ) (turn : Turn) → TurnStands n turn → bytes_of (turn_items n held turn) ≡ output (events_in turn)
 turn_bytes n held turn stands =
     filter_map-append byte_of (map plain_item (input_records n held turn)) (reach_items n turn.event) ∙ ap (λ l. l ++ bytes_of (reach_items n turn.event)) (bytes_of_plain (input_records n held turn))
-    ∙ reach_byte n (serial_byte turn.event) (suc n % 256 == 0) ∙ ap (λ k. cons_option (option_map (λ byte. (k, byte)) (serial_byte turn.event)) []) (sym stands.step)
+    ∙ reach_byte n (serial_byte turn.event) (suc n % 256 == 0) ∙ ap (λ k. cons_option (option_map (sent_at k) (serial_byte turn.event)) []) (sym stands.step)
     ∙ sym (filter_map-append byte_sent turn.writes (turn.event ∷ []) ∙ ap (λ l. l ++ output (turn.event ∷ [])) (words_silent n turn.writes stands.words))
 
 turns_bytes : (n held : ℕ) (turns : List Turn) → TurnsStand n turns → bytes_of (turns_items n held turns) ≡ output (events_of turns)

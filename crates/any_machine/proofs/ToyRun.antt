@@ -10,7 +10,7 @@ use Rattle.run_events.specs.declared.record.Record.{Record}
 use Rattle.run_events.specs.declared.record.Record.TheVariants.{Load, Lines, Dma, Reach, End}
 use Rattle.any_machine.specs.Machine.{Input}
 use Rattle.any_machine.specs.Run.{Finished, run_from, events_of}
-use Rattle.any_machine.specs.Log.{log, items, bytes_of, output}
+use Rattle.any_machine.specs.Log.{log, items, bytes_of, output, sent_at}
 use Rattle.any_machine.specs.Tape.{tape_of}
 use Rattle.any_machine.specs.Replay.{state_at, turns_below, first_stop, outcome, shown, shown_on}
 use Rattle.any_machine.proofs.Toy.{toy, toy_board, guest}
@@ -33,11 +33,11 @@ power_in_the_last_step : log (run_of 6) ≡ guest_log
 unfolding toy toy_board run_from
 power_in_the_last_step = refl
 
-bytes_are : bytes_of (items (run_of 100)) ≡ (2, 72) ∷ (4, 2) ∷ []
+bytes_are : bytes_of (items (run_of 100)) ≡ sent_at 2 72 ∷ sent_at 4 2 ∷ []
 unfolding toy toy_board run_from
 bytes_are = refl
 
-output_is : output (events_of (run_of 100).turns) ≡ (2, 72) ∷ (4, 2) ∷ []
+output_is : output (events_of (run_of 100).turns) ≡ sent_at 2 72 ∷ sent_at 4 2 ∷ []
 unfolding toy toy_board run_from
 output_is = refl
 

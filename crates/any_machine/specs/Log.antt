@@ -66,17 +66,31 @@ items_from n held run = turns_items n held run.turns ++ plain_item (End run.step
 abbrev pub items : Finished → List Item
 items run = items_from 0 0 run
 
--- the byte that an item lets go, with its step, which is the last one before the item's number
-abbrev pub byte_of : Item → Option (ℕ × ℕ)
-byte_of item = option_map (λ byte. (number item.item - 1, byte)) item.byte
+-- A byte that goes out on the serial line, and the step that sends it.
+pub record SentByte : Type 0 where
+  pub step : ℕ
+  pub byte : ℕ
 
-abbrev pub bytes_of : List Item → List (ℕ × ℕ)
+abbrev pub sent_at : ℕ → ℕ → SentByte
+sent_at step byte = record { step = step; byte = byte }
+
+abbrev pub steps_of : List SentByte → List ℕ
+steps_of sent = map (λ (byte : SentByte). byte.step) sent
+
+abbrev pub bytes_in : List SentByte → List ℕ
+bytes_in sent = map (λ (byte : SentByte). byte.byte) sent
+
+-- the byte that an item lets go, whose step is the last one before the item's number
+abbrev pub byte_of : Item → Option SentByte
+byte_of item = option_map (sent_at (number item.item - 1)) item.byte
+
+abbrev pub bytes_of : List Item → List SentByte
 bytes_of items = filter_map byte_of items
 
--- the output of a list of events: the bytes that go out on the serial line, each with its step
-abbrev pub output : List Event → List (ℕ × ℕ)
-output events = filter_map (λ event. option_map (λ byte. (step_of event, byte)) (serial_byte event)) events
+-- the output of a list of events: the bytes that go out on the serial line
+abbrev pub output : List Event → List SentByte
+output events = filter_map (λ event. option_map (sent_at (step_of event)) (serial_byte event)) events
 
 -- the part of some output whose steps are smaller than this one
-abbrev pub before_step : ℕ → List (ℕ × ℕ) → List (ℕ × ℕ)
-before_step step sent = filter (λ byte. nat_lt byte.0 step) sent
+abbrev pub before_step : ℕ → List SentByte → List SentByte
+before_step step sent = filter (λ byte. nat_lt byte.step step) sent

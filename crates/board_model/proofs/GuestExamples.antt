@@ -10,7 +10,7 @@ use Rattle.run_events.specs.declared.record.Record.TheVariants.{Load, Lines, Rea
 use Rattle.rv_csr.specs.Table
 use Rattle.rv_decode.specs.Listing
 use Rattle.any_machine.specs.Run.{Finished, run_from, events_of}
-use Rattle.any_machine.specs.Log.{log, output}
+use Rattle.any_machine.specs.Log.{log, output, SentByte, sent_at}
 use Rattle.hart_model.specs.Machine.{hart}
 use Rattle.hart_model.specs.Step.{cpu, outcome, step_by}
 use Rattle.machine_model.specs.Script.{Script, What, Serial, Tick, no_script}
@@ -28,7 +28,7 @@ abbrev run_of : List ℕ → Script → List ℕ → (limit : ℕ) → Finished
 run_of words script disk limit = run (flat_image (bytes words)) script disk 1 limit
 
 -- a run has this log and this output
-record Gives (finished : Finished) (records : List Record) (sent : List (ℕ × ℕ)) : Type 0 where
+record Gives (finished : Finished) (records : List Record) (sent : List SentByte) : Type 0 where
   log_is : log finished ≡ records
   output_is : output (events_of finished.turns) ≡ sent
 
@@ -42,16 +42,16 @@ one_entry at what = record no_script { entries = record { at = at; what = what }
 abbrev letter : List ℕ
 letter = 0x10000537 ∷ 0x04800593 ∷ 0x00b50023 ∷ 0x10100637 ∷ 0x00062023 ∷ []
 
-letter_is : Gives (run_of letter no_script [] 100) (Reach 3 ∷ End 5 (Power 0) ∷ []) ((2, 0x48) ∷ [])
+letter_is : Gives (run_of letter no_script [] 100) (Reach 3 ∷ End 5 (Power 0) ∷ []) (sent_at 2 0x48 ∷ [])
 unfolding run board run_from hart cpu outcome step_by ram_at_start Listing.instruction Listing.rows Table.read Table.written Table.rows is_device
 letter_is = record { log_is = refl; output_is = refl }
 
 -- the end by power comes before the limit, and the limit before the end by power
-letter_in_five_steps : Gives (run_of letter no_script [] 5) (Reach 3 ∷ End 5 (Power 0) ∷ []) ((2, 0x48) ∷ [])
+letter_in_five_steps : Gives (run_of letter no_script [] 5) (Reach 3 ∷ End 5 (Power 0) ∷ []) (sent_at 2 0x48 ∷ [])
 unfolding run board run_from hart cpu outcome step_by ram_at_start Listing.instruction Listing.rows Table.read Table.written Table.rows is_device
 letter_in_five_steps = record { log_is = refl; output_is = refl }
 
-letter_in_four_steps : Gives (run_of letter no_script [] 4) (Reach 3 ∷ End 4 Limit ∷ []) ((2, 0x48) ∷ [])
+letter_in_four_steps : Gives (run_of letter no_script [] 4) (Reach 3 ∷ End 4 Limit ∷ []) (sent_at 2 0x48 ∷ [])
 unfolding run board run_from hart cpu outcome step_by ram_at_start Listing.instruction Listing.rows Table.read Table.written Table.rows is_device
 letter_in_four_steps = record { log_is = refl; output_is = refl }
 
@@ -88,7 +88,7 @@ abbrev masking : List ℕ
 masking = 0x100002b7 ∷ 0x00100313 ∷ 0x0062a423 ∷ 0x344023f3 ∷ 0x0053d393 ∷ 0x00728023 ∷ 0x10100637 ∷ 0x00062023 ∷ []
 
 -- the byte comes at the step that looks at the lines, and one step after it
-seen_in_time : Gives (run_of masking (one_entry 3 (Serial (0x61 ∷ []) 0)) [] 100) (Lines 3 2 ∷ Reach 6 ∷ End 8 (Power 0) ∷ []) ((5, 0x40) ∷ [])
+seen_in_time : Gives (run_of masking (one_entry 3 (Serial (0x61 ∷ []) 0)) [] 100) (Lines 3 2 ∷ Reach 6 ∷ End 8 (Power 0) ∷ []) (sent_at 5 0x40 ∷ [])
 unfolding run board run_from hart cpu outcome step_by ram_at_start Listing.instruction Listing.rows Table.read Table.written Table.rows is_device
 seen_in_time = record { log_is = refl; output_is = refl }
 

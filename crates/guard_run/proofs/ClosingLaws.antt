@@ -11,7 +11,7 @@ use Rattle.run_events.specs.declared.finding.Kind.{Kind}
 use Rattle.run_events.specs.declared.item.Item.{Item}
 use Rattle.run_events.specs.declared.record.Record.{Record}
 use Rattle.run_events.specs.declared.record.Record.TheVariants.{End}
-use Rattle.any_machine.specs.Log.{items, log, turns_log}
+use Rattle.any_machine.specs.Log.{items, log, turns_log, SentByte}
 use Rattle.any_machine.proofs.Determinism.{shown_whole}
 use Rattle.any_machine.proofs.ShownBySteps.{shown_by_steps}
 use Rattle.hart_model.specs.Machine.{hart}
@@ -85,7 +85,7 @@ module _ (job : Job) (places : List ℕ) (closing : Closing) (are : AreReplicas 
       let closed = closes (items run) (log run) (events job) (job_items job) (shown_whole hart (first_state job) run (job_runs job marked)) whole.closes in
       let ends : turns.ending_of closing.over ≡ Some (record { steps = run.steps; cause = run.cause }) = closed.ending ∙ ap end_back (reverse-last (turns_log 0 0 run.turns) (End run.steps run.cause)) in
       let issued : turns.issued_of closing.over ≡ told.issued = whole.closes.issued ∙ ap length (job_output job marked) in
-      let out : turns.released_of closing.over ≡ told.released = whole.released ∙ ap length (course_released job places marked are.required) ∙ length-map (released job) (λ (byte : ℕ × ℕ). byte.1) in
+      let out : turns.released_of closing.over ≡ told.released = whole.released ∙ ap length (course_released job places marked are.required) ∙ length-map (released job) (λ (byte : SentByte). byte.byte) in
       record {
         closes = closed;
         facts =

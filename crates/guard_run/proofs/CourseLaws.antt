@@ -10,7 +10,7 @@ use Rattle.list_laws.specs.Prefix.{IsPrefix}
 use Rattle.list_laws.proofs.PrefixLaws.{take_IsPrefix}
 use Rattle.run_events.specs.declared.finding.Kind.{Kind}
 use Rattle.run_events.specs.Record.{IsRecord, is_ordered, reach}
-use Rattle.any_machine.specs.Log.{before_step, bytes_of, items, log}
+use Rattle.any_machine.specs.Log.{before_step, bytes_of, items, log, steps_of, bytes_in}
 use Rattle.any_machine.proofs.Determinism.{prefix_executed, reach_log}
 use Rattle.gate_core.specs.Core.{reached}
 use Rattle.gate_core.specs.Hub.{is_cap}
@@ -21,7 +21,7 @@ use Rattle.job_model.specs.Job.{Job, events, finished, first_refused, guest, lea
 use Rattle.job_model.proofs.RunLaws.{first_state, job_items, job_ordered, job_output, job_records, job_runs, job_within}
 use Rattle.job_model.proofs.VerdictLaws.{Foretells, foretells}
 use Rattle.turn_run.specs.Course as course
-use Rattle.turn_run.specs.Course.{Agrees, IsCourse, IsMarked, end_of, least_limit, log_of, plan_of, steps_of, stop_of}
+use Rattle.turn_run.specs.Course.{Agrees, IsCourse, IsMarked, end_of, least_limit, log_of, plan_of, stop_of}
 use Rattle.turn_run.specs.Gates.{released_by}
 use Rattle.guard_run.specs.Openings.{released_in}
 use Rattle.guard_run.specs.Jobs.{ArePlaces, IsRunnable, course_of}
@@ -80,11 +80,11 @@ module _ (job : Job) (places : List ℕ) where
   -- and lets out what the job does
   pub course_released : AreMarked job.script.entries → ArePlaces job.kinds job.required places → course.released_bytes (course_of job places) ≡ released_bytes job
   course_released marked are =
-      ap (λ n. map (λ (byte : ℕ × ℕ). byte.1) (before_step n (bytes_of (items (finished job))))) (course_stop are) ∙ ap (λ sent. map (λ (byte : ℕ × ℕ). byte.1) (before_step (stop job) sent)) (job_output job marked)
+      ap (λ n. bytes_in (before_step n (bytes_of (items (finished job))))) (course_stop are) ∙ ap (λ sent. bytes_in (before_step (stop job) sent)) (job_output job marked)
 
   -- also of its first records
   pub course_let_out : ArePlaces job.kinds job.required places → (count : ℕ) → released_by (course_of job places) count ≡ released_in job count
-  course_let_out are count = ap (λ n. map (λ (byte : ℕ × ℕ). byte.1) (before_step n (bytes_of (take count (items (finished job)))))) (course_stop are)
+  course_let_out are count = ap (λ n. bytes_in (before_step n (bytes_of (take count (items (finished job)))))) (course_stop are)
 
   some_places : (cap : ℕ) → IsTrue (is_cap cap) → 1 ≤ cap
   some_places zero is = absurd (cc)

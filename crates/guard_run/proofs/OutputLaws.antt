@@ -13,10 +13,10 @@ use Rattle.run_events.specs.declared.record.Record.TheVariants.{Lines, Reach, En
 use Rattle.run_events.specs.declared.supply.Supplied.{Supplied}
 use Rattle.any_machine.specs.Machine.{Machine, Turn, power_status, serial_byte, after}
 use Rattle.any_machine.specs.Run.{Finished, EndsOrGoes, IsRun, Runs}
-use Rattle.any_machine.specs.Log.{byte_of, bytes_of, input_records, items, lines_records, load_records, plain_item, reach_items, turn_items, turns_items, word_record}
+use Rattle.any_machine.specs.Log.{byte_of, bytes_of, input_records, items, lines_records, load_records, plain_item, reach_items, turn_items, turns_items, word_record, SentByte, steps_of}
 use Rattle.output_gate.specs.Gate.{Climbs}
 use Rattle.output_gate.proofs.GateLaws.{Climbs-wider}
-use Rattle.turn_run.specs.Course.{IsMarked, steps_of}
+use Rattle.turn_run.specs.Course.{IsMarked}
 
 -- EACH BYTE WITH ITS MARK
 
@@ -48,7 +48,7 @@ climbs_then (x ∷ xs) ys low middle high first rest = (first.0, climbs_then xs 
 -- of some items, and then others
 bytes_then : (xs ys : List Item) (low middle high : ℕ) → Climbs low (steps_of (bytes_of xs)) middle → Climbs middle (steps_of (bytes_of ys)) high → Climbs low (steps_of (bytes_of (xs ++ ys))) high
 bytes_then xs ys low middle high first rest =
-    subst (λ l. Climbs low l high) (sym (ap steps_of (filter_map-append byte_of xs ys) ∙ map-append (λ (byte : ℕ × ℕ). byte.0) (bytes_of xs) (bytes_of ys)))
+    subst (λ l. Climbs low l high) (sym (ap steps_of (filter_map-append byte_of xs ys) ∙ map-append (λ (byte : SentByte). byte.step) (bytes_of xs) (bytes_of ys)))
     (climbs_then (steps_of (bytes_of xs)) (steps_of (bytes_of ys)) low middle high first rest)
 
 plain_climb : (n : ℕ) (records : List Record) → Climbs n (steps_of (bytes_of (map plain_item records))) n

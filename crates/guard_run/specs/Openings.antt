@@ -2,7 +2,7 @@
 use Rattle.std.specs.Prelude.{◌≡◌, ℕ, List, length, map, take}
 use Rattle.after_edge.specs.Fault.{Rose}
 use Rattle.after_edge.specs.Sink.{Telling, Adds, Writes}
-use Rattle.any_machine.specs.Log.{before_step, bytes_of, items}
+use Rattle.any_machine.specs.Log.{before_step, bytes_of, items, bytes_in}
 use Rattle.job_model.specs.Job.{Job, finished, released_bytes, stop}
 use Rattle.run_settings.specs.declared.letter.Letter.{Letter}
 use Rattle.rv_machine.specs.ToCome.{recording}
@@ -57,7 +57,7 @@ pub record IsStopped (job : Job) (count put : ℕ) (parts : Parts) : Type 0 wher
 
 -- what is let out of the bytes that a job's first so many records let go
 abbrev pub released_in : Job → ℕ → List ℕ
-released_in job count = map (λ (byte : ℕ × ℕ). byte.1) (before_step (stop job) (bytes_of (take count (items (finished job)))))
+released_in job count = bytes_in (before_step (stop job) (bytes_of (take count (items (finished job)))))
 
 -- the bytes that were put are exactly those that are let out
 pub record HasEnded {S : Type 0} (job : Job) (parts : Parts) (sink : Telling S) (old new : S) : Type 0 where

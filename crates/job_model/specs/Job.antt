@@ -4,7 +4,7 @@ use Rattle.run_events.specs.declared.event.Event.{Event}
 use Rattle.run_events.specs.declared.finding.Kind.{Kind}
 use Rattle.machine_model.specs.Image.{Image}
 use Rattle.machine_model.specs.Script.{Script}
-use Rattle.any_machine.specs.Log.{before_step, output}
+use Rattle.any_machine.specs.Log.{before_step, output, SentByte, bytes_in}
 use Rattle.any_machine.specs.Run.{Finished, events_of}
 use Rattle.board_model.specs.Guest.{run}
 use Rattle.analysis_model.specs.Complaints.{Guest, findings}
@@ -48,9 +48,9 @@ least_refused guest events steps (kind ∷ kinds) =
 abbrev pub stop : Job → ℕ
 stop job = least_refused (guest job) (events job) (finished job).steps job.required
 
--- the part of a job's output that goes out: each byte with its step
-abbrev pub released : Job → List (ℕ × ℕ)
+-- the part of a job's output that goes out
+abbrev pub released : Job → List SentByte
 released job = before_step (stop job) (output (events job))
 
 abbrev pub released_bytes : Job → List ℕ
-released_bytes job = map (λ (byte : ℕ × ℕ). byte.1) (released job)
+released_bytes job = bytes_in (released job)

@@ -11,12 +11,12 @@ use Rattle.list_laws.proofs.PrefixLaws.{take-next}
 use Rattle.run_events.specs.declared.item.Item.{Item}
 use Rattle.run_events.specs.Record.{IsRecord, number, reach}
 use Rattle.run_events.proofs.RecordLaws.{reach_push}
-use Rattle.any_machine.specs.Log.{byte_of, bytes_of}
+use Rattle.any_machine.specs.Log.{byte_of, bytes_of, steps_of}
 use Rattle.gate_core.specs.Core.{IsPlan, StepsRise, reached}
 use Rattle.gate_core.proofs.CoreLaws.{reach_rises}
 use Rattle.output_gate.specs.Gate.{Climbs}
 use Rattle.output_gate.proofs.GateLaws.{Climbs-wider, Climbs-at}
-use Rattle.turn_run.specs.Course.{Course, IsCourse, IsMarked, log_of, output_of, steps_of, plan_of, end_of}
+use Rattle.turn_run.specs.Course.{Course, IsCourse, IsMarked, log_of, output_of, plan_of, end_of}
 use Rattle.turn_run.specs.Gates.{issued_by}
 
 rises_of : (low high : ℕ) (steps : List ℕ) → Climbs low steps high → StepsRise low steps

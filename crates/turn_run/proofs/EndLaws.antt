@@ -8,7 +8,7 @@ use Rattle.after_edge.specs.Sink.{Telling}
 use Rattle.after_edge.proofs.SinkLaws.{Writes-same}
 use Rattle.list_laws.specs.Prefix.{IsPrefix}
 use Rattle.list_laws.proofs.PrefixLaws.{IsPrefix-length, IsPrefix-take}
-use Rattle.any_machine.specs.Log.{before_step}
+use Rattle.any_machine.specs.Log.{before_step, SentByte, sent_at, steps_of, bytes_in}
 use Rattle.any_machine.specs.Recording.{Recording}
 use Rattle.gate_core.specs.Core.{CoreState, IsAllowed, IsFinished, IsReleasable, IsRequired, IsSound, reached}
 use Rattle.gate_core.specs.Hub.{HubState}
@@ -17,7 +17,7 @@ use Rattle.output_gate.proofs.GateLaws.{count_below-before}
 use Rattle.turn_run.specs.declared.parts.Parts.{Parts}
 use Rattle.turn_run.specs.Following.{Following}
 use Rattle.turn_run.specs.Closings.{HasEnded, HasStopped, IsReadOut, IsStopped}
-use Rattle.turn_run.specs.Course.{Course, IsCourse, bytes_in, end_of, output_of, plan_of, released_bytes, steps_of, stop_of}
+use Rattle.turn_run.specs.Course.{Course, IsCourse, end_of, output_of, plan_of, released_bytes, stop_of}
 use Rattle.turn_run.specs.Gates.{IsWithheldFrom, issued_by, not_withheld, released_by, still_waiting}
 use Rattle.turn_run.specs.Runs.{AllTaken, HasCome, HasCrashed, HasReleased, IsAt, bytes_between, with_released}
 use Rattle.turn_run.proofs.CourseLaws.{is_plan, issued_IsPrefix, issued_all, length_log, reach_whole}
@@ -30,7 +30,7 @@ use Rattle.turn_run.proofs.TurnLaws.{posted_is, verdict_agrees}
 -- THE BYTES THAT A SOUND CORE HAS RELEASED
 
 module _ (c : Course) (is : IsCourse c) (core : CoreState) (sound : IsSound (plan_of c) core) (there : core.released ≤ length (issued_by c core.appended)) where
-  abbrev issued : List (ℕ × ℕ)
+  abbrev issued : List SentByte
   issued = issued_by c core.appended
 
   first_issued : take core.released (issued_by c core.appended) ≡ take core.released (output_of c)
@@ -43,7 +43,7 @@ module _ (c : Course) (is : IsCourse c) (core : CoreState) (sound : IsSound (pla
   pub within_released : core.released ≤ length (released_by c core.appended)
   within_released =
       let long : core.released ≤ length (before_step (stop_of c) (issued_by c core.appended)) = before-long (stop_of c) core.released (issued_by c core.appended) there all_below in
-      omega (arith, long, length-map (before_step (stop_of c) (issued_by c core.appended)) (λ (byte : ℕ × ℕ). byte.1))
+      omega (arith, long, length-map (before_step (stop_of c) (issued_by c core.appended)) (λ (byte : SentByte). byte.byte))
 
   -- and the first of these
   pub first_released : bytes_between c 0 core.released ≡ take core.released (released_by c core.appended)
@@ -54,7 +54,7 @@ module _ (c : Course) (is : IsCourse c) (core : CoreState) (sound : IsSound (pla
       ∙ take-append-le n (take n (issued_by c core.appended)) (before_step (stop_of c) (drop n (issued_by c core.appended))) (omega (arith, length-take-le n (issued_by c core.appended) there))
       ∙ take-take n n (issued_by c core.appended) (omega arith)
       ∙ first_issued in
-      sym (take-map (λ (byte : ℕ × ℕ). byte.1) n (before_step (stop_of c) (issued_by c core.appended)) ∙ ap bytes_in same)
+      sym (take-map (λ (byte : SentByte). byte.byte) n (before_step (stop_of c) (issued_by c core.appended)) ∙ ap bytes_in same)
 
 -- THE END OF A RUN
 
@@ -66,14 +66,14 @@ module _ {M F : Type 0} (r : Recording M) (f : Following F) (c : Course) (core :
   sound : IsSound (plan_of c) core
   sound = at.follows.sound
 
-  abbrev sent : List (ℕ × ℕ)
+  abbrev sent : List SentByte
   sent = output_of c
 
   abbrev steps : List ℕ
   steps = steps_of (output_of c)
 
   length_steps : length (steps_of (output_of c)) ≡ length (output_of c)
-  length_steps = length-map (output_of c) (λ (byte : ℕ × ℕ). byte.0)
+  length_steps = length-map (output_of c) (λ (byte : SentByte). byte.step)
 
   reader_there : (reader : ℕ) → IsRequired (plan_of c) reader → reader < length c.limits
   reader_there reader required = subst (λ n. n < length c.limits) required.2 (All-get_or (λ n. n < length c.limits) c.required required.0 0 required.1 is.required)
@@ -95,10 +95,10 @@ module _ {M F : Type 0} (r : Recording M) (f : Following F) (c : Course) (core :
       let reader : ℕ = slice_index c.required limit.place in
       let needed : IsRequired (plan_of c) reader = (limit.place, limit.there, refl) in
       let low : step < from = omega (arith, approved reader needed, (sound.readers reader (reader_there reader needed)).limit, limit.is) in
-      let here : (get_or (output_of c) core.released (0, 0)).0 < from = omega (arith, get_or-map (λ (byte : ℕ × ℕ). byte.0) (output_of c) core.released (0, 0) 0 less, step_is, low) in
+      let here : (get_or (output_of c) core.released (sent_at 0 0)).step < from = omega (arith, get_or-map (λ (byte : SentByte). byte.step) (output_of c) core.released (sent_at 0 0) 0 less, step_is, low) in
       let more : AllBelow from (take (core.released + 1) (output_of c)) =
-      subst (AllBelow from) (sym (take_more (output_of c) core.released (0, 0) less))
-      (All-push (λ (byte : ℕ × ℕ). byte.0 < from) (take core.released (output_of c)) (get_or (output_of c) core.released (0, 0)) (released_limit c is core sound from limit) here) in
+      subst (AllBelow from) (sym (take_more (output_of c) core.released (sent_at 0 0) less))
+      (All-push (λ (byte : SentByte). byte.step < from) (take core.released (output_of c)) (get_or (output_of c) core.released (sent_at 0 0)) (released_limit c is core sound from limit) here) in
       omega (arith, before-long from (core.released + 1) (output_of c) (omega (arith, less)) more)
 
   none_releasable : (count : ℕ) → IsReleasable (plan_of c) core count → ⊥
@@ -110,7 +110,7 @@ module _ {M F : Type 0} (r : Recording M) (f : Following F) (c : Course) (core :
       let waits = kept_more (slice_index (steps_of (output_of c)) core.released) less refl next.approved parts.gate.from at.gates.withheld in
       let all : issued_by c core.appended ≡ output_of c = issued_all c is core.appended (omega (arith, whole)) in
       let left : length (still_waiting c core parts.gate.from) ≡ length (not_withheld parts.gate.from (output_of c)) - core.released = length-drop core.released (not_withheld parts.gate.from (issued_by c core.appended)) ∙ ap (λ l. length (not_withheld parts.gate.from l) - core.released) all in
-      let empty : length (still_waiting c core parts.gate.from) ≡ 0 = sym (length-map (still_waiting c core parts.gate.from) (λ (byte : ℕ × ℕ). byte.0)) ∙ ap length (sym at.gates.steps ∙ none) in
+      let empty : length (still_waiting c core parts.gate.from) ≡ 0 = sym (length-map (still_waiting c core parts.gate.from) (λ (byte : SentByte). byte.step)) ∙ ap length (sym at.gates.steps ∙ none) in
       omega (arith, waits, left, empty)
 
   finished : IsFinished (plan_of c) core
@@ -142,7 +142,7 @@ module _ {M F : Type 0} (r : Recording M) (f : Following F) (c : Course) (core :
   ]
 
   pub released_is : core.released ≡ length (released_bytes c)
-  released_is = count_is ∙ sym (length-map (before_step (stop_of c) (output_of c)) (λ (byte : ℕ × ℕ). byte.1))
+  released_is = count_is ∙ sym (length-map (before_step (stop_of c) (output_of c)) (λ (byte : SentByte). byte.byte))
 
   pub put_is : bytes_between c 0 core.released ≡ released_bytes c
   put_is =

@@ -23,7 +23,7 @@ use Rattle.turn_run.specs.declared.parts.Recorded.TheVariants.{Appended, Closed,
 use Rattle.turn_run.specs.declared.reading.Turn.{Turn}
 use Rattle.turn_run.specs.declared.reading.Turn.TheVariants as turn
 use Rattle.turn_run.specs.Following.{Following}
-use Rattle.turn_run.specs.Course.{Course, bytes_in, log_of, output_of, plan_of}
+use Rattle.turn_run.specs.Course.{Course, log_of, output_of, plan_of}
 use Rattle.turn_run.specs.Endings.{end_in}
 use Rattle.turn_run.specs.Gates.{Gates}
 use Rattle.turn_run.specs.Closings.{IsReadOut}
@@ -34,6 +34,7 @@ use Rattle.turn_run.specs.Sources.{StillToCome, items_left}
 use Rattle.turn_run.proofs.CourseLaws.{is_plan}
 use Rattle.turn_run.proofs.LeastLaws.{least-rises}
 use Rattle.turn_run.proofs.ReleaseLaws.{between_is}
+use Rattle.any_machine.specs.Log.{SentByte, bytes_in}
 
 -- BYTES BETWEEN PLACES
 
@@ -44,7 +45,7 @@ between-add : (c : Course) (from first second : ℕ) → bytes_between c from (f
 between-add c from first second =
     let rest : List ℕ = bytes_in (drop from (output_of c)) in
     let later : bytes_in (drop (from + first) (output_of c)) ≡ drop first rest =
-    ap bytes_in (sym (drop-drop first from (output_of c))) ∙ sym (drop-map (λ (byte : ℕ × ℕ). byte.1) first (drop from (output_of c))) in
+    ap bytes_in (sym (drop-drop first from (output_of c))) ∙ sym (drop-map (λ (byte : SentByte). byte.byte) first (drop from (output_of c))) in
     (λ i. between_is c from first i ++ between_is c (from + first) second i)
     ∙ ap (λ l. take first rest ++ take second l) later
     ∙ sym (take-add first second rest)

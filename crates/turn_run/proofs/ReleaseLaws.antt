@@ -11,12 +11,12 @@ use Rattle.std.proofs.lemmas.List.Elements.{All-weaker, All-filter, All-drop, Al
 use Rattle.list_laws.specs.Prefix.{IsPrefix}
 use Rattle.list_laws.proofs.AllLaws.{filter-kept}
 use Rattle.list_laws.proofs.PrefixLaws.{IsPrefix-trans, IsPrefix-map, IsPrefix-take, IsPrefix-length}
-use Rattle.any_machine.specs.Log.{before_step}
+use Rattle.any_machine.specs.Log.{before_step, SentByte, sent_at, steps_of, bytes_in}
 use Rattle.gate_core.specs.Core.{CoreState, Release, reached, IsSound, IsReleasable}
 use Rattle.gate_core.proofs.CoreLaws.{event_IsSound}
 use Rattle.output_gate.specs.Gate.{GateState, Climbs, passed_after, count_below, first_withheld, with_release, with_withheld}
 use Rattle.output_gate.proofs.GateLaws.{Climbs-take, Climbs-drop, filter-climbs, count_below-within, count_below-before}
-use Rattle.turn_run.specs.Course.{Course, IsCourse, steps_of, bytes_in, output_of, stop_of, plan_of, end_of}
+use Rattle.turn_run.specs.Course.{Course, IsCourse, output_of, stop_of, plan_of, end_of}
 use Rattle.turn_run.specs.Gates.{Gates, IsLimit, IsWithheldFrom, issued_by, not_withheld, least_approved, still_waiting}
 use Rattle.turn_run.specs.Runs.{with_released, bytes_between}
 use Rattle.turn_run.proofs.ListLaws.{AllBelow, Climbs-prefix, passed_after-below, splits, split_IsPrefix, count-before, before-both, before-drop, before-long, filter-map-steps}
@@ -25,7 +25,7 @@ use Rattle.turn_run.proofs.CourseLaws.{is_plan, issued_IsPrefix, length_log}
 use Rattle.turn_run.proofs.IssueLaws.{issued_under}
 
 -- what is below a bound comes first among output whose steps rise
-before-take : (bound low high : ℕ) (sent : List (ℕ × ℕ)) → Climbs low (steps_of sent) high → take (count_below bound (steps_of sent)) sent ≡ before_step bound sent
+before-take : (bound low high : ℕ) (sent : List SentByte) → Climbs low (steps_of sent) high → take (count_below bound (steps_of sent)) sent ≡ before_step bound sent
 before-take bound low high sent climbs =
     let split = splits bound low high sent climbs in
     ap (λ n. take n sent) (count-before bound sent)
@@ -34,7 +34,7 @@ before-take bound low high sent climbs =
 
 -- the output between two places, in other words
 pub between_is : (c : Course) (from count : ℕ) → bytes_between c from (from + count) ≡ take count (bytes_in (drop from (output_of c)))
-between_is c from count = ap bytes_in (drop-take from count (output_of c)) ∙ sym (take-map (λ (byte : ℕ × ℕ). byte.1) count (drop from (output_of c)))
+between_is c from count = ap bytes_in (drop-take from count (output_of c)) ∙ sym (take-map (λ (byte : SentByte). byte.byte) count (drop from (output_of c)))
 
 -- some first ones of the output between two places
 pub between-prefix : (c : Course) (from count : ℕ) (part_of : List ℕ) → IsPrefix part_of (bytes_between c from (from + count)) → (length part_of ≤ count) × (part_of ≡ bytes_between c from (from + length part_of))
@@ -47,7 +47,7 @@ between-prefix c from count part_of is =
     )
 
 -- after it nothing is below the bound
-none-after : (bound low high : ℕ) (sent : List (ℕ × ℕ)) → Climbs low (steps_of sent) high → before_step bound (drop (count_below bound (steps_of sent)) sent) ≡ []
+none-after : (bound low high : ℕ) (sent : List SentByte) → Climbs low (steps_of sent) high → before_step bound (drop (count_below bound (steps_of sent)) sent) ≡ []
 none-after bound low high sent climbs =
     let split = splits bound low high sent climbs in
     ap (before_step bound) (ap (λ n. drop n sent) (count-before bound sent) ∙ ap (drop (length (before_step bound sent))) (sym split.joined) ∙ drop-append_seam (before_step bound sent) split.rest) ∙ split.none
@@ -55,7 +55,7 @@ none-after bound low high sent climbs =
 module _ (c : Course) (is : IsCourse c) (from : Option ℕ) (a : ℕ) where
   issued_climbs : Climbs 0 (steps_of (issued_by c a)) (end_of c)
   issued_climbs =
-      Climbs-prefix (steps_of (issued_by c a)) (steps_of (output_of c)) 0 (end_of c) (IsPrefix-map (λ (byte : ℕ × ℕ). byte.0) (issued_IsPrefix c is a)) is.climbs
+      Climbs-prefix (steps_of (issued_by c a)) (steps_of (output_of c)) 0 (end_of c) (IsPrefix-map (λ (byte : SentByte). byte.step) (issued_IsPrefix c is a)) is.climbs
 
   kept_by : (o : Option ℕ) → Climbs 0 (steps_of (not_withheld o (issued_by c a))) (end_of c) × IsPrefix (not_withheld o (issued_by c a)) (output_of c)
   kept_by None = (issued_climbs, issued_IsPrefix c is a)
@@ -81,12 +81,12 @@ module _ (c : Course) (is : IsCourse c) (from : Option ℕ) (a : ℕ) where
 
   kept_under_by : (low : ℕ) (o : Option ℕ) → AllBelow low (issued_by c a) → AllBelow low (not_withheld o (issued_by c a))
   kept_under_by low None all = all
-  kept_under_by low (Some step) all = All-filter (λ (byte : ℕ × ℕ). nat_lt byte.0 step) (λ (byte : ℕ × ℕ). byte.0 < low) (issued_by c a) all
+  kept_under_by low (Some step) all = All-filter (λ (byte : SentByte). nat_lt byte.step step) (λ (byte : SentByte). byte.step < low) (issued_by c a) all
 
 -- the bytes that a sound core has released are below the limit of each required replica, and below the stop
 module _ (c : Course) (is : IsCourse c) (core : CoreState) (sound : IsSound (plan_of c) core) where
   long : core.released ≤ length (output_of c)
-  long = omega (arith, sound.released, length-map (output_of c) (λ (byte : ℕ × ℕ). byte.0))
+  long = omega (arith, sound.released, length-map (output_of c) (λ (byte : SentByte). byte.step))
 
   below_limit : (i : ℕ) → i < core.released → (place : ℕ) → place < length c.required → slice_index (steps_of (output_of c)) i < slice_index c.limits (slice_index c.required place)
   below_limit i less place there =
@@ -102,11 +102,11 @@ module _ (c : Course) (is : IsCourse c) (core : CoreState) (sound : IsSound (pla
 
   all_under : (bound : ℕ) → ((i : ℕ) → i < core.released → slice_index (steps_of (output_of c)) i < bound) → AllBelow bound (take core.released (output_of c))
   all_under bound each =
-      All-from_get_or (λ (byte : ℕ × ℕ). byte.0 < bound) (take core.released (output_of c)) (0, 0) (λ i less.
+      All-from_get_or (λ (byte : SentByte). byte.step < bound) (take core.released (output_of c)) (sent_at 0 0) (λ i less.
       let within : i < core.released = omega (arith, less, length-take-le core.released (output_of c) long) in
-      let same : (get_or (take core.released (output_of c)) i (0, 0)).0 ≡ slice_index (steps_of (output_of c)) i =
-      ap (λ (byte : ℕ × ℕ). byte.0) (get_or-take core.released (output_of c) i (0, 0) within)
-      ∙ sym (get_or-map (λ (byte : ℕ × ℕ). byte.0) (output_of c) i (0, 0) 0 (omega (arith, within, long))) in
+      let same : (get_or (take core.released (output_of c)) i (sent_at 0 0)).step ≡ slice_index (steps_of (output_of c)) i =
+      ap (λ (byte : SentByte). byte.step) (get_or-take core.released (output_of c) i (sent_at 0 0) within)
+      ∙ sym (get_or-map (λ (byte : SentByte). byte.step) (output_of c) i (sent_at 0 0) 0 (omega (arith, within, long))) in
       let below = each i within in omega (arith, below, same))
 
   pub released_below : AllBelow (stop_of c) (take core.released (output_of c))
@@ -116,7 +116,7 @@ module _ (c : Course) (is : IsCourse c) (core : CoreState) (sound : IsSound (pla
   released_limit from limit = all_under from (λ i less. let below = below_limit i less limit.place limit.there in omega (arith, below, limit.is))
 
 module _ (c : Course) (is : IsCourse c) (core : CoreState) (gate : GateState) (g : Gates c core gate) where
-  abbrev all_kept : List (ℕ × ℕ)
+  abbrev all_kept : List SentByte
   all_kept = not_withheld gate.from (issued_by c core.appended)
 
   begins : IsPrefix all_kept (output_of c)
@@ -124,7 +124,7 @@ module _ (c : Course) (is : IsCourse c) (core : CoreState) (gate : GateState) (g
 
   waiting_climbs : Climbs (passed_after 0 (take core.released (steps_of all_kept))) gate.steps (end_of c)
   waiting_climbs =
-      subst (λ l. Climbs (passed_after 0 (take core.released (steps_of all_kept))) l (end_of c)) (drop-map (λ (byte : ℕ × ℕ). byte.0) core.released all_kept ∙ sym g.steps)
+      subst (λ l. Climbs (passed_after 0 (take core.released (steps_of all_kept))) l (end_of c)) (drop-map (λ (byte : SentByte). byte.step) core.released all_kept ∙ sym g.steps)
       (Climbs-drop core.released (steps_of all_kept) 0 (end_of c) (kept_climbs c is gate.from core.appended))
 
   still_climbs : Climbs (passed_after 0 (take core.released (steps_of all_kept))) (steps_of (still_waiting c core gate.from)) (end_of c)
@@ -135,7 +135,7 @@ module _ (c : Course) (is : IsCourse c) (core : CoreState) (gate : GateState) (g
     count = count_below below gate.steps
 
     room : core.released + count_below below gate.steps ≤ length all_kept
-    room = omega (arith, count_below-within below gate.steps, ap length g.steps, length-map (still_waiting c core gate.from) (λ (byte : ℕ × ℕ). byte.0), length-drop core.released all_kept, g.there)
+    room = omega (arith, count_below-within below gate.steps, ap length g.steps, length-map (still_waiting c core gate.from) (λ (byte : SentByte). byte.step), length-drop core.released all_kept, g.there)
 
     pub within_issued : core.released + count_below below gate.steps ≤ length (issued_by c core.appended)
     within_issued = omega (arith, room, kept_short c is gate.from core.appended)
@@ -148,8 +148,8 @@ module _ (c : Course) (is : IsCourse c) (core : CoreState) (gate : GateState) (g
 
     pub after_release : Gates c (with_released core (core.released + count_below below gate.steps)) (with_release gate (count_below below gate.steps))
     after_release = record {
-      steps = ap (drop count) g.steps ∙ drop-map (λ (byte : ℕ × ℕ). byte.0) count (still_waiting c core gate.from) ∙ ap steps_of (drop-drop count core.released all_kept);
-      bytes = ap (drop count) g.bytes ∙ drop-map (λ (byte : ℕ × ℕ). byte.1) count (still_waiting c core gate.from) ∙ ap bytes_in (drop-drop count core.released all_kept);
+      steps = ap (drop count) g.steps ∙ drop-map (λ (byte : SentByte). byte.step) count (still_waiting c core gate.from) ∙ ap steps_of (drop-drop count core.released all_kept);
+      bytes = ap (drop count) g.bytes ∙ drop-map (λ (byte : SentByte). byte.byte) count (still_waiting c core gate.from) ∙ ap bytes_in (drop-drop count core.released all_kept);
       issued = g.issued;
       released = ap (λ n. n + count) g.released;
       last = g.last;
@@ -164,18 +164,18 @@ module _ (c : Course) (is : IsCourse c) (core : CoreState) (gate : GateState) (g
     pub put_is : take (count_below below gate.steps) gate.bytes ≡ bytes_between c core.released (core.released + count_below below gate.steps)
     put_is =
         ap (take count) g.bytes
-        ∙ take-map (λ (byte : ℕ × ℕ). byte.1) count (still_waiting c core gate.from)
+        ∙ take-map (λ (byte : SentByte). byte.byte) count (still_waiting c core gate.from)
         ∙ ap bytes_in (sym (drop-take core.released count all_kept) ∙ ap (drop core.released) (IsPrefix-take (core.released + count) all_kept (output_of c) begins room))
 
     -- each of them may be released
     step_is : (byte : ℕ) → core.released ≤ byte → byte < core.released + count → slice_index (steps_of (output_of c)) byte ≡ slice_index gate.steps (byte - core.released)
     step_is byte from to =
-        let within : byte < length (steps_of all_kept) = omega (arith, to, room, length-map all_kept (λ (byte : ℕ × ℕ). byte.0)) in
-        let steps = IsPrefix-map (λ (byte : ℕ × ℕ). byte.0) begins in
+        let within : byte < length (steps_of all_kept) = omega (arith, to, room, length-map all_kept (λ (byte : SentByte). byte.step)) in
+        let steps = IsPrefix-map (λ (byte : SentByte). byte.step) begins in
         front_reads 0 (steps_of (output_of c)) (steps_of all_kept) steps.rest (sym steps.joined) byte within
         ∙ ap (λ n. slice_index (steps_of all_kept) n) (let e : byte ≡ core.released + (byte - core.released) = omega (arith, from) in e)
         ∙ sym (get_or-drop core.released (steps_of all_kept) (byte - core.released) 0)
-        ∙ ap (λ l. slice_index l (byte - core.released)) (drop-map (λ (byte : ℕ × ℕ). byte.0) core.released all_kept ∙ sym g.steps)
+        ∙ ap (λ l. slice_index l (byte - core.released)) (drop-map (λ (byte : SentByte). byte.step) core.released all_kept ∙ sym g.steps)
 
     few : IsSound (plan_of c) core → core.appended ≤ length c.items
     few sound = omega (arith, sound.appended, length_log c is)
@@ -183,15 +183,15 @@ module _ (c : Course) (is : IsCourse c) (core : CoreState) (gate : GateState) (g
     pub all_reached : core.appended ≤ length c.items → All (λ step. step < reached (plan_of c) core.appended) gate.steps
     all_reached le =
         subst (All (λ step. step < reached (plan_of c) core.appended)) (sym g.steps)
-        (All-map (λ step. step < reached (plan_of c) core.appended) (λ (byte : ℕ × ℕ). byte.0) (still_waiting c core gate.from)
-        (All-drop (λ (byte : ℕ × ℕ). byte.0 < reached (plan_of c) core.appended) core.released all_kept (kept_under_by c is gate.from core.appended (reached (plan_of c) core.appended) gate.from (issued_under c is core.appended le))))
+        (All-map (λ step. step < reached (plan_of c) core.appended) (λ (byte : SentByte). byte.step) (still_waiting c core gate.from)
+        (All-drop (λ (byte : SentByte). byte.step < reached (plan_of c) core.appended) core.released all_kept (kept_under_by c is gate.from core.appended (reached (plan_of c) core.appended) gate.from (issued_under c is core.appended le))))
 
     pub releasable : IsSound (plan_of c) core → core.failed ≡ false → 1 ≤ count_below below gate.steps → IsReleasable (plan_of c) core (count_below below gate.steps)
     releasable sound fine some = record {
       sound = fine;
       some = some;
       piece = omega (arith, count_below-within below gate.steps, g.few);
-      there = omega (arith, room, IsPrefix-length all_kept (output_of c) begins, length-map (output_of c) (λ (byte : ℕ × ℕ). byte.0));
+      there = omega (arith, room, IsPrefix-length all_kept (output_of c) begins, length-map (output_of c) (λ (byte : SentByte). byte.step));
       may_go = λ byte from to.
           let here = step_is byte from to in
           let place : byte - core.released < count_below below gate.steps = omega (arith, from, to) in
@@ -227,7 +227,7 @@ module _ (c : Course) (is : IsCourse c) (core : CoreState) (gate : GateState) (g
         let low = passed_after 0 (take core.released (steps_of all_kept)) in
         let sent = still_waiting c core gate.from in
         let rest : drop (count_below below gate.steps) gate.steps ≡ steps_of (drop (count_below below (steps_of sent)) sent) =
-        (λ i. drop (count_below below (g.steps i)) (g.steps i)) ∙ drop-map (λ (byte : ℕ × ℕ). byte.0) (count_below below (steps_of sent)) sent in
+        (λ i. drop (count_below below (g.steps i)) (g.steps i)) ∙ drop-map (λ (byte : SentByte). byte.step) (count_below below (steps_of sent)) sent in
         ap (count_below below) rest ∙ count-before below (drop (count_below below (steps_of sent)) sent) ∙ ap length (none-after below low (end_of c) sent still_climbs)
 
   -- after the gate withheld from the limit of a required replica on
@@ -261,8 +261,8 @@ module _ (c : Course) (is : IsCourse c) (core : CoreState) (gate : GateState) (g
 
     pub after_withhold : Gates c core (with_withheld gate from)
     after_withhold = record {
-      steps = ap (take (count_below from gate.steps)) g.steps ∙ take-map (λ (byte : ℕ × ℕ). byte.0) (count_below from gate.steps) (still_waiting c core gate.from) ∙ ap steps_of still_is;
-      bytes = ap (take (count_below from gate.steps)) g.bytes ∙ take-map (λ (byte : ℕ × ℕ). byte.1) (count_below from gate.steps) (still_waiting c core gate.from) ∙ ap bytes_in still_is;
+      steps = ap (take (count_below from gate.steps)) g.steps ∙ take-map (λ (byte : SentByte). byte.step) (count_below from gate.steps) (still_waiting c core gate.from) ∙ ap steps_of still_is;
+      bytes = ap (take (count_below from gate.steps)) g.bytes ∙ take-bytes_in (count_below from gate.steps) (still_waiting c core gate.from) ∙ ap bytes_in still_is;
       issued = g.issued;
       released = g.released;
       last = g.last;

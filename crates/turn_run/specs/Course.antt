@@ -6,7 +6,7 @@ use Rattle.run_events.specs.declared.record.Record.{Record}
 use Rattle.run_events.specs.declared.record.Record.TheVariants.{Reach}
 use Rattle.run_events.specs.Record.{IsRecord, is_ordered, reach}
 use Rattle.run_events.specs.declared.item.Item.{Item}
-use Rattle.any_machine.specs.Log.{before_step, bytes_of}
+use Rattle.any_machine.specs.Log.{before_step, bytes_of, SentByte, steps_of, bytes_in}
 use Rattle.gate_core.specs.declared.verdict.Verdict.{Verdict}
 use Rattle.gate_core.specs.Core.{Plan, reached}
 use Rattle.output_gate.specs.Gate.{Climbs}
@@ -22,15 +22,9 @@ pub record Course : Type 0 where
 abbrev pub log_of : Course → List Record
 log_of c = map (λ (i : Item). i.item) c.items
 
--- the bytes of the output, each with its step
-abbrev pub output_of : Course → List (ℕ × ℕ)
+-- the bytes of the output
+abbrev pub output_of : Course → List SentByte
 output_of c = bytes_of c.items
-
-abbrev pub steps_of : List (ℕ × ℕ) → List ℕ
-steps_of sent = map (λ (byte : ℕ × ℕ). byte.0) sent
-
-abbrev pub bytes_in : List (ℕ × ℕ) → List ℕ
-bytes_in sent = map (λ (byte : ℕ × ℕ). byte.1) sent
 
 -- how many steps the run has
 abbrev pub end_of : Course → ℕ

@@ -4,15 +4,15 @@ use Rattle.std.specs.Prelude.{◌≡◌, ℕ, ◌-◌, ◌<◌, ◌≤◌, Bool,
 use Rattle.run_events.specs.declared.record.Record.{Record}
 use Rattle.run_events.specs.Record.{number}
 use Rattle.run_events.specs.declared.item.Item.{Item}
-use Rattle.any_machine.specs.Log.{before_step, bytes_of}
+use Rattle.any_machine.specs.Log.{before_step, bytes_of, SentByte, steps_of, bytes_in}
 use Rattle.gate_core.specs.Core.{CoreState}
 use Rattle.gate_core.specs.Follow.{approvals}
 use Rattle.gate_core.specs.Hub.{HubState, approved_at, full_of, verdict_at, with_append}
 use Rattle.output_gate.specs.Gate.{GateState, passed_after, count_below, is_full, with_issue, with_release, with_withheld}
-use Rattle.turn_run.specs.Course.{Course, least_limit, steps_of, bytes_in, stop_of}
+use Rattle.turn_run.specs.Course.{Course, least_limit, stop_of}
 
 -- the bytes of the records that were appended, each with its step
-abbrev pub issued_by : Course → ℕ → List (ℕ × ℕ)
+abbrev pub issued_by : Course → ℕ → List SentByte
 issued_by c count = bytes_of (take count c.items)
 
 -- those of them that are let out
@@ -20,12 +20,12 @@ abbrev pub released_by : Course → ℕ → List ℕ
 released_by c count = bytes_in (before_step (stop_of c) (issued_by c count))
 
 -- those of them that are not withheld
-abbrev pub not_withheld : Option ℕ → List (ℕ × ℕ) → List (ℕ × ℕ)
+abbrev pub not_withheld : Option ℕ → List SentByte → List SentByte
 not_withheld None sent = sent
 not_withheld (Some from) sent = before_step from sent
 
 -- those of them that are not released either
-abbrev pub still_waiting : Course → CoreState → Option ℕ → List (ℕ × ℕ)
+abbrev pub still_waiting : Course → CoreState → Option ℕ → List SentByte
 still_waiting c core from = drop core.released (not_withheld from (issued_by c core.appended))
 
 -- a step is the limit of a replica that has to approve

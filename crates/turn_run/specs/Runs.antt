@@ -14,10 +14,11 @@ use Rattle.turn_run.specs.declared.reading.Turn.TheVariants as turn
 use Rattle.any_machine.specs.Recording.{Recording}
 use Rattle.turn_run.specs.Following.{Following}
 use Rattle.turn_run.specs.Sources.{StillToCome, items_left}
-use Rattle.turn_run.specs.Course.{Course, log_of, output_of, bytes_in, plan_of}
+use Rattle.turn_run.specs.Course.{Course, log_of, output_of, plan_of}
 use Rattle.turn_run.specs.Replicas.{Follows, core_after_read}
 use Rattle.turn_run.specs.Gates.{Gates, issued_by, least_approved, refusals, withheld_from}
 use Rattle.turn_run.specs.Endings.{end_in}
+use Rattle.any_machine.specs.Log.{bytes_in}
 
 -- so many bytes are released
 abbrev pub with_released : CoreState → ℕ → CoreState
