@@ -169,7 +169,7 @@ impl Board {
         ensures still { (script : Outside) (step : ℕ) (words : List DmaWord) (state : BoardState)
             → Stands script (step + 1) words state self.now
             → AreStill script (model.board_lines script step state) (step + 1) result state }
-        ensures ahead { result ≤ quiet_ahead self.now }
+        ensures ahead { result ≡ quiet_ahead self.now }
     {
         let until = self.quiet.min(self.timer.steady()).min(0x1_0000_0000);
         if until <= self.begun {

@@ -1,6 +1,6 @@
 //! The timer: a count that rises with its clock and with the ticks of a script, and what it is compared with.
 //! (Privileged manual, 3.2.1.)
-ghost use Rattle.std.specs.Prelude.{◌≡◌, ℕ, ◌+◌, ◌-◌, ◌%◌, ◌^◌, ◌≤◌, nat_le};
+ghost use Rattle.std.specs.Prelude.{◌≡◌, ℕ, ◌+◌, ◌-◌, ◌%◌, ◌^◌, ◌≤◌, min, nat_le};
 ghost use Rattle.rv_devices.specs.Times.{Times, passed, rises_kept, steady_until};
 
 /// The two counts, and when the first one rises next.
@@ -69,10 +69,10 @@ impl Timer {
         }
     }
 
-    /// Up to which step its line stays as it is, where only its clock moves it.
+    /// Up to which step its line stays as it is, where only its clock moves it; the greatest number where that is later.
     #[inline]
     pub fn steady(&self) -> u64
-        ensures { result ≤ steady_until self.now }
+        ensures { result ≡ min (steady_until self.now) (2 ^ 64 - 1) }
     {
         let clock = u64::from(self.clock);
         self.rise
