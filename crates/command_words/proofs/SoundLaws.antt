@@ -28,6 +28,7 @@ use Rattle.command_words.specs.Jobs.{Job, Run, Record, Analyze, Show, Load, Valu
 use Rattle.command_words.specs.declared.command.Command.{Command}
 use Rattle.command_words.specs.Says.{GivesJob, says}
 use Rattle.command_words.specs.Sound.{IsBetween, IsLogSize, AreChosen, IsSoundRun, IsSoundJob}
+use Rattle.command_words.specs.declared.value.TheConstants.{LEAST_LOG, MOST_LOG, MOST_THREADS}
 
 -- ---- what is read of a value
 
@@ -73,8 +74,8 @@ kept_by test (Some y) x h =
 log_between : (text : List ℕ) (n : ℕ) → log_in text ≡ Some n → IsLogSize n
 unfolding log_in
 log_between text n h =
-    let kept = kept_by is_power_of_two (number_in 16 65536 text) n h in
-    (number_between 16 65536 text n kept.0, kept.1)
+    let kept = kept_by is_power_of_two (number_in LEAST_LOG MOST_LOG text) n h in
+    (number_between LEAST_LOG MOST_LOG text n kept.0, kept.1)
 
 parts_some : (text : List ℕ) → 0 < length (parts_of text)
 unfolding parts_of
@@ -172,7 +173,7 @@ log_sound : (values : Values) → IsLogSize (log values)
 unfolding ones
 log_sound values = value_or_is IsLogSize 1024 log_in ((omega arith, omega arith), refl) log_between (values Log)
 
-threads_sound : (values : Values) → IsBetween 0 8 (threads values)
+threads_sound : (values : Values) → IsBetween 0 MOST_THREADS (threads values)
 threads_sound values = value_or_is (IsBetween 0 8) 0 threads_in (omega arith, omega arith) (number_between 0 8) (values Threads)
 
 same_job : (a b : Job) → (let r : Result Job WordsFault = Ok a in r) ≡ Ok b → a ≡ b

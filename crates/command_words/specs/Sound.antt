@@ -7,13 +7,14 @@ use Rattle.run_events.specs.declared.finding.Kind.{Kind}
 use Rattle.run_settings.specs.Kinds.{EachOnce}
 use Rattle.run_settings.specs.Patterns.{IsPattern}
 use Rattle.command_words.specs.Jobs.{Job, Run, Record, Analyze, Show, Load, RunJob}
+use Rattle.command_words.specs.declared.value.TheConstants.{LEAST_LOG, MOST_LOG, MOST_THREADS}
 
 abbrev pub IsBetween : ℕ → ℕ → ℕ → Type 0
 IsBetween least most n = (least ≤ n) × (n ≤ most)
 
 -- how many places a log may have
 abbrev pub IsLogSize : ℕ → Type 0
-IsLogSize n = IsBetween 16 65536 n × IsTrue (is_power_of_two n)
+IsLogSize n = IsBetween LEAST_LOG MOST_LOG n × IsTrue (is_power_of_two n)
 
 -- one analysis at least, each once
 abbrev pub AreChosen : List Kind → Type 0
@@ -27,7 +28,7 @@ pub record IsSoundRun (run : RunJob) : Type 0 where
   pub chosen : AreChosen run.kinds
   pub required : All (Contains run.kinds) run.required
   pub required_once : EachOnce run.required
-  pub threads : run.threads ≤ 8
+  pub threads : run.threads ≤ MOST_THREADS
   pub turns : IsPattern (length run.kinds) run.turns
 
 abbrev pub IsSoundJob : Job → Type 0

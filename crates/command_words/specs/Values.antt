@@ -13,6 +13,7 @@ use Rattle.run_settings.specs.declared.letter.Letter.{Letter}
 use Rattle.run_settings.specs.declared.letter.Letter.TheVariants as letter
 use Rattle.format_model.specs.ScriptReading.{number_at}
 use Rattle.analysis_model.specs.Report.{kind_name}
+use Rattle.command_words.specs.declared.value.TheConstants.{LEAST_LOG, MOST_LOG, MOST_THREADS}
 use Rattle.command_words.specs.declared.table.Setting.{Setting}
 use Rattle.command_words.specs.declared.table.Setting.TheVariants.{Disk, Mode, With, Require, Ram, Steps, Log, Threads, Turns}
 
@@ -55,11 +56,11 @@ steps_in text = number_in 1 MOST_STEPS text
 -- how many places a log has: a power of two
 unfoldable pub log_in : List ℕ → Option ℕ
 log_in text =
-    number_in 16 65536 text >>= λ places. if is_power_of_two places then Some places else None
+    number_in LEAST_LOG MOST_LOG text >>= λ places. if is_power_of_two places then Some places else None
 
 -- how many threads
 abbrev pub threads_in : List ℕ → Option ℕ
-threads_in text = number_in 0 8 text
+threads_in text = number_in 0 MOST_THREADS text
 
 -- the number that a guest is made from
 abbrev pub seed_in : List ℕ → Option ℕ

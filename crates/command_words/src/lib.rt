@@ -15,3 +15,4 @@ mod value;
 pub use command::{AnalyzeWords, Command, LoadWords, RecordWords, RunWords, ShowWords};
 pub use fault::WordsFault;
 pub use reading::{first_bad_before, read_words};
+pub use value::{LEAST_LOG, MOST_LOG, MOST_THREADS};

@@ -8,6 +8,13 @@ use memory_map::{LEAST_RAM_KIB, MOST_RAM_KIB, MOST_STEPS};
 use run_events::Kind;
 use run_settings::{Kinds, Letter, Turns};
 
+/// The fewest and the most places that a log has.
+pub const LEAST_LOG: u32 = 16;
+pub const MOST_LOG: u32 = 65_536;
+
+/// The most threads.
+pub const MOST_THREADS: u32 = 8;
+
 // Whether a word may be a name or a value: it is not empty, and does not begin with a dash.
 pub(crate) fn is_plain(word: &str) -> bool
     ensures { result ≡ is_plain word.now }
@@ -61,7 +68,7 @@ pub(crate) fn steps_in(text: &str) -> Option<u32>
 pub(crate) fn log_in(text: &str) -> Option<u32>
     ensures { result ≡ log_in text.now }
 {
-    match number_in(text, 16, 65536) {
+    match number_in(text, LEAST_LOG, MOST_LOG) {
         Some(places) if places.is_power_of_two() => Some(places),
         _ => None,
     }
@@ -71,7 +78,7 @@ pub(crate) fn log_in(text: &str) -> Option<u32>
 pub(crate) fn threads_in(text: &str) -> Option<u32>
     ensures { result ≡ threads_in text.now }
 {
-    number_in(text, 0, 8)
+    number_in(text, 0, MOST_THREADS)
 }
 
 // The number that a guest is made from.

@@ -23,7 +23,7 @@ use Rattle.rv_decode.specs.Listing.{Row, meets, read_by, rows, instruction}
 use Rattle.analysis_model.specs.Taint.{Register, Scratch, Sources, From, unmarked, register, is_general, is_marked_jump, bytes_from, old_bytes, union_of, mark_of, operands, loaded, with_result, no_writes, writes_result, writes_bytes, atomic_writes, scratch_writes, csr_writes, writes_by, writes_as}
 use Rattle.shadow_state.proofs.PaintLaws.{painted-same}
 use Rattle.taint_marks.specs.Calm.{AreUnmarked, NoneMarked, IsUnmarked}
-use Rattle.taint_marks.specs.Marked.{Writes, marked_by}
+use Rattle.taint_marks.specs.Marked.{GivenMarks, marked_by}
 use Rattle.taint_marks.specs.Marks.{Marks, mark_now, registers_with, shade_with, with_given, after}
 
 -- the instruction whose registers are those that the fields of the word name
@@ -84,7 +84,7 @@ module _ (m : Marks) where
   shade_same address width (Some mark) clear = painted-same m.shade address (address + width) mark (λ a covered. clear.1 a (grind (arith, covered)) (grind (arith, covered)) ∙ sym clear.0)
 
   -- what is given to places without a mark is none
-  record IsNone (given : Writes) : Type 0 where
+  record IsNone (given : GivenMarks) : Type 0 where
     pub result : IfSome given.result (λ v. (v ≡ 0) × (mark_now m (Register given.rd) ≡ 0))
     pub scratch : IfSome given.scratch (λ v. (v ≡ 0) × (m.scratch ≡ 0))
     pub stored : IfSome given.stored (λ v. (v ≡ 0) × NoneMarked m given.address given.width)
@@ -93,7 +93,7 @@ module _ (m : Marks) where
   scratch_same None none = refl
   scratch_same (Some mark) none = none.0 ∙ sym none.1
 
-  given_same : (given : Writes) → IsNone given → with_given m given ≡ m
+  given_same : (given : GivenMarks) → IsNone given → with_given m given ≡ m
   given_same given none =
       let registers = result_same given.rd given.result none.result in
       let scratch = scratch_same given.scratch none.scratch in

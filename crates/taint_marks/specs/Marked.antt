@@ -8,7 +8,7 @@ use Rattle.analysis_model.specs.Taint as model
 
 -- The marks that an event gives: to the register `rd`, to mscratch, and to `width` bytes from an address on. Where there
 -- is none, they keep theirs.
-pub record Writes : Type 0 where
+pub record GivenMarks : Type 0 where
   pub rd : ℕ
   pub result : Option ℕ
   pub scratch : Option ℕ
@@ -16,23 +16,23 @@ pub record Writes : Type 0 where
   pub width : ℕ
   pub stored : Option ℕ
 
-abbrev pub given_none : Writes
+abbrev pub given_none : GivenMarks
 given_none = record { rd = 0; result = None; scratch = None; address = 0; width = 0; stored = None }
 
-abbrev pub given_result : ℕ → Option ℕ → Writes → Writes
+abbrev pub given_result : ℕ → Option ℕ → GivenMarks → GivenMarks
 given_result rd mark given = record given { rd = rd; result = mark }
 
-abbrev pub given_bytes : ℕ → ℕ → ℕ → Writes → Writes
+abbrev pub given_bytes : ℕ → ℕ → ℕ → GivenMarks → GivenMarks
 given_bytes address width mark given = record given { address = address; width = width; stored = Some mark }
 
 -- the mark of the bytes of RAM that an access stores
-abbrev pub given_stored : Access → ℕ → Writes
+abbrev pub given_stored : Access → ℕ → GivenMarks
 given_stored (access.Store address width value false) mark = given_bytes address width mark given_none
 given_stored (access.Swap address old new) mark = given_bytes address 4 mark given_none
 given_stored _ mark = given_none
 
 -- the marks that come from the sources of what is written
-abbrev pub marked_by : (Place → ℕ) → model.Writes → Writes
+abbrev pub marked_by : (Place → ℕ) → model.Writes → GivenMarks
 marked_by marks writes = record {
   rd = writes.rd;
   result = option_map (mark_of marks) writes.result;

@@ -10,7 +10,7 @@ use Rattle.analysis_model.specs.Made.{guest_made_of}
 use Rattle.analysis_model.specs.Taint.{Place, Register, Scratch, Byte, IsPlace, is_general, writes_of, mark_after, taint_by}
 use Rattle.finding_tally.specs.Tallied.{Tallied, Tallies, tallied_with}
 use Rattle.shadow_state.specs.Shade.{Shade, shade, painted}
-use Rattle.taint_marks.specs.Marked.{Writes, marked_by}
+use Rattle.taint_marks.specs.Marked.{GivenMarks, marked_by}
 
 -- what it keeps: the RAM size in KiB, the marks of the registers, of mscratch and of each byte of RAM, and the findings
 pub record Marks : Type 0 where
@@ -50,7 +50,7 @@ abbrev pub shade_with : Shade → ℕ → ℕ → Option ℕ → Shade
 shade_with s address width None = s
 shade_with s address width (Some mark) = painted s address (address + width) mark
 
-abbrev pub with_given : Marks → Writes → Marks
+abbrev pub with_given : Marks → GivenMarks → Marks
 with_given m given = record {
   ram_kib = m.ram_kib;
   registers = registers_with m.registers given.rd given.result;

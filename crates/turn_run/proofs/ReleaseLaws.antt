@@ -262,7 +262,7 @@ module _ (c : Course) (is : IsCourse c) (core : CoreState) (gate : GateState) (g
     pub after_withhold : Gates c core (with_withheld gate from)
     after_withhold = record {
       steps = ap (take (count_below from gate.steps)) g.steps ∙ take-map (λ (byte : SentByte). byte.step) (count_below from gate.steps) (still_waiting c core gate.from) ∙ ap steps_of still_is;
-      bytes = ap (take (count_below from gate.steps)) g.bytes ∙ take-bytes_in (count_below from gate.steps) (still_waiting c core gate.from) ∙ ap bytes_in still_is;
+      bytes = ap (take (count_below from gate.steps)) g.bytes ∙ take-map (λ (byte : SentByte). byte.byte) (count_below from gate.steps) (still_waiting c core gate.from) ∙ ap bytes_in still_is;
       issued = g.issued;
       released = g.released;
       last = g.last;
