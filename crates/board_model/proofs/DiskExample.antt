@@ -8,7 +8,7 @@ use Rattle.run_events.specs.declared.record.Record.TheVariants.{Load, Dma, Reach
 use Rattle.rv_csr.specs.Table
 use Rattle.rv_decode.specs.Listing
 use Rattle.any_machine.specs.Run.{Finished, run_from, events_of}
-use Rattle.any_machine.specs.Log.{log, output}
+use Rattle.any_machine.specs.Log.{log, output, sent_at}
 use Rattle.hart_model.specs.Machine.{hart}
 use Rattle.hart_model.specs.Step.{cpu, outcome, step_by}
 use Rattle.machine_model.specs.Script.{Latency}
@@ -41,6 +41,6 @@ reading_log : log reading_run ≡ Load 6 1 0 ∷ Load 8 1 0 ∷ Dma 9 0x80000200
 unfolding zeros run board run_from hart cpu outcome step_by ram_at_start words_of Listing.instruction Listing.rows Table.read Table.written Table.rows is_device
 reading_log = refl
 
-reading_output : output (events_of reading_run.turns) ≡ (14, 0x51) ∷ []
+reading_output : output (events_of reading_run.turns) ≡ sent_at 14 0x51 ∷ []
 unfolding run board run_from hart cpu outcome step_by ram_at_start words_of Listing.instruction Listing.rows Table.read Table.written Table.rows is_device
 reading_output = refl

@@ -92,7 +92,7 @@ seen_in_time : Gives (run_of masking (one_entry 3 (Serial (0x61 ∷ []) 0)) [] 1
 unfolding run board run_from hart cpu outcome step_by ram_at_start Listing.instruction Listing.rows Table.read Table.written Table.rows is_device
 seen_in_time = record { log_is = refl; output_is = refl }
 
-seen_late : Gives (run_of masking (one_entry 4 (Serial (0x61 ∷ []) 0)) [] 100) (Lines 4 2 ∷ Reach 6 ∷ End 8 (Power 0) ∷ []) ((5, 0) ∷ [])
+seen_late : Gives (run_of masking (one_entry 4 (Serial (0x61 ∷ []) 0)) [] 100) (Lines 4 2 ∷ Reach 6 ∷ End 8 (Power 0) ∷ []) (sent_at 5 0 ∷ [])
 unfolding run board run_from hart cpu outcome step_by ram_at_start Listing.instruction Listing.rows Table.read Table.written Table.rows is_device
 seen_late = record { log_is = refl; output_is = refl }
 

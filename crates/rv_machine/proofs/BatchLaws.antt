@@ -114,6 +114,20 @@ module _ (script : Script) (lines : ℕ) (b : BoardState) where
       ∙ plain_run more (rest + more) rest (suc step) to next refl (omega (arith, there)) (omega (arith, same)) (plain_others lines (suc more) s plain) (λ k below. subst (λ n. IsStill script lines n b) (omega arith) (still (suc k) (omega (arith, below))))
       ∙ ap (λ (t : State). mark_items to ++ coming script Between rest to lines t b []) (after_first lines (suc more) s)
 
+  -- plain steps, and another one begins
+  plain_into : (more left rest step to : ℕ) (s : State) → left ≡ rest + more → to ≡ step + more → step / 256 ≡ to / 256 → are_plain lines more s ≡ true → AreStill script lines (step + 1) more b
+      → coming script Need left step lines s b [] ≡ coming script Need rest to lines (plain_after lines more s) b []
+  plain_into zero left rest step to s enough there same plain still =
+      subst (λ n. coming script Need left step lines s b [] ≡ coming script Need n to lines (plain_after lines 0 s) b []) (omega (arith, enough))
+      (subst (λ n. coming script Need left step lines s b [] ≡ coming script Need left n lines (plain_after lines 0 s) b []) (omega (arith, there))
+      (ap (λ (t : State). coming script Need left step lines t b []) (after_none lines 0 s (plain_after lines 0 s) refl refl)))
+  plain_into (suc more) left rest step to s enough there same plain still =
+      let after = plain_after lines (suc more) s in
+      let unmarked : mark_items to ≡ [] = subst (λ n. mark_items n ≡ []) (omega (arith, there)) (no_mark (step + more) 0 (omega (arith, there, same))) in
+      plain_run more left (suc rest) step to s (omega (arith, enough)) there (omega (arith, there, same)) plain (λ k below. still k (omega (arith, below)))
+      ∙ ap (λ (l : List Item). l ++ coming script Between (suc rest) to lines after b []) unmarked
+      ∙ still_goes rest to after (subst (λ n. IsStill script lines n b) (omega (arith, there)) (still more (omega arith)))
+
 -- plain steps were done, of which the first one had begun
 pub ran : (left rest lines more : ℕ) (s after : State) (b next : Board) (items : List Item) → left ≡ rest + more → s.step / 256 ≡ (s.step + more) / 256 → are_plain lines (suc more) s ≡ true → plain_after lines (suc more) s ≡ after
     → length after.ram ≡ length s.ram
@@ -141,6 +155,35 @@ ran left rest lines more s after b next items enough same plain does sized still
         are = ap (λ n. coming is.script Between rest n lines after is.state []) (sym counted);
       };
     }
+
+-- plain steps were done, of which the first one had begun, and another one has begun
+pub ran_into : (left rest lines more : ℕ) (s after : State) (b next : Board) (items : List Item) → left ≡ rest + more → s.step / 256 ≡ (s.step + more) / 256 → are_plain lines more s ≡ true → plain_after lines more s ≡ after
+    → length after.ram ≡ length s.ram
+    → ((script : Script) (step : ℕ) (words : List DmaWord) (state : BoardState) → Stands script (step + 1) words state b → AreStill script (board_lines script step state) (step + 1) more state)
+    → ((script : Script) (begun : ℕ) (words : List DmaWord) (state : BoardState) → Stands script begun words state b → Stands script (begun + more) words state next)
+    → Awaits Need left lines s b items → Awaits Need rest lines after next items
+ran_into left rest lines more s after b next items enough same plain does sized still goes is =
+    let counted : after.step ≡ s.step + more = ap (λ (t : State). t.step) (sym does) ∙ plain_counts lines more s in
+    let quiet : AreStill is.script lines (s.step + 1) more is.state = subst (λ n. AreStill is.script n (s.step + 1) more is.state) is.told (still is.script s.step is.words is.state is.stands) in
+    record {
+      script = is.script;
+      state = is.state;
+      words = [];
+      stands = subst (λ words. Stands is.script (after.step + 1) words is.state next) is.due (subst (λ n. Stands is.script n is.words is.state next) (omega (arith, counted)) (goes is.script (s.step + 1) is.words is.state is.stands));
+      way = subst (λ n. IsUnderWay n is.state.activity) (sym sized) is.way;
+      held = tt;
+      due = refl;
+      told = shown more is.told quiet counted;
+      are =
+          is.are ∙ ap (coming is.script Need left s.step lines s is.state) is.due
+          ∙ plain_into is.script lines is.state more left rest s.step (s.step + more) s enough refl same plain quiet
+          ∙ ap (λ (t : State). coming is.script Need rest (s.step + more) lines t is.state []) does
+          ∙ ap (λ n. coming is.script Need rest n lines after is.state []) (sym counted);
+    }
+  where
+    shown : (more : ℕ) → board_lines is.script s.step is.state ≡ lines → AreStill is.script lines (s.step + 1) more is.state → after.step ≡ s.step + more → board_lines is.script after.step is.state ≡ lines
+    shown zero told quiet counted = subst (λ n. board_lines is.script n is.state ≡ lines) (omega (arith, counted)) told
+    shown (suc more) told quiet counted = subst (λ n. board_lines is.script n is.state ≡ lines) (omega (arith, counted)) (quiet more (omega arith)).lines_stay
 
 -- and what they moved
 unmarked : (done : ℕ) → [] ≡ mark_items done → 0 < done % 256

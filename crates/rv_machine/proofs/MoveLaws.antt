@@ -5,10 +5,12 @@ use Rattle.rv_machine.specs.Phase.{is_over}
 use Rattle.rv_machine.specs.ToCome.{FoundNext, MovesOn, ToCome, IsOneTurn, to_do}
 use Rattle.rv_machine.specs.declared.machine.Machine.{Machine}
 
+pub moves_past : (given : Option Item) (before mid after : Machine) → before.cpu.step ≤ mid.cpu.step → mid.cpu.step / 256 ≡ before.cpu.step / 256 → to_do mid ≤ to_do before → MovesOn given mid after → MovesOn given before after
+moves_past None before mid after past same less m = record { going = m.going; onward = omega (arith, m.onward, past); block = m.block ∙ same; less = omega (arith, m.less, less) }
+moves_past (Some item) before mid after past same less m = record { few = omega (arith, m.few, same); less = omega (arith, m.less, less) }
+
 pub moves_from : (given : Option Item) (before mid after : Machine) → mid.cpu.step ≡ before.cpu.step → to_do mid ≤ to_do before → MovesOn given mid after → MovesOn given before after
-moves_from None before mid after same less m =
-    record { going = m.going; onward = omega (arith, m.onward, same); block = m.block ∙ ap (λ n. n / 256) same; less = omega (arith, m.less, less) }
-moves_from (Some item) before mid after same less m = record { few = omega (arith, m.few, same); less = omega (arith, m.less, less) }
+moves_from given before mid after same less m = moves_past given before mid after (omega (arith, same)) (ap (λ n. n / 256) same) less m
 
 -- so many turns went on from a machine
 pub record GoneOn (turns : ℕ) (before now : Machine) : Type 0 where

@@ -199,7 +199,7 @@ impl Machine {
         }
     }
 
-    // Does the step and those after it as long as they are plain ones and nothing else is due; or it is another one.
+    // Does the step and those after it as long as they are plain ones and nothing else is due, and then the one that is none.
     #[inline(always)]
     fn run_on(&mut self) -> Option<Item>
         requires { self.old.phase ≡ Asks }
@@ -208,11 +208,13 @@ impl Machine {
         let step = self.cpu.steps();
         let more = self.board.quiet_for().min(self.left).min(255 - step % 256);
         let done = self.cpu.run_plain(self.lines, more + 1);
-        if done == 0 {
+        if done <= more {
+            self.board.pass(done);
+            self.left -= done;
             return self.ask_need();
         }
-        self.board.pass(done - 1);
-        self.left -= done - 1;
+        self.board.pass(more);
+        self.left -= more;
         self.phase = Phase::Between;
         mark_item(step + done)
     }
