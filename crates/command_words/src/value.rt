@@ -10,6 +10,7 @@ use run_settings::{Kinds, Letter, Turns};
 
 /// The fewest and the most places that a log has.
 pub const LEAST_LOG: u32 = 16;
+
 pub const MOST_LOG: u32 = 65_536;
 
 /// The most threads.
