@@ -1,5 +1,5 @@
 -- What a plain step shows and leaves where the counters are some steps behind is the step of the hart.
-use Rattle.std.proofs.Common.{◌≡◌, ◌∙◌, ℕ, suc, ◌+◌, [], ◌∷◌, Bool, true, false, not, ◌&&◌, length, Option, None, Some, refl, sym, ap, subst, arith}
+use Rattle.std.proofs.Common.{◌≡◌, ◌∙◌, ℕ, suc, ◌+◌, Bool, true, false, not, ◌&&◌, length, Option, None, Some, refl, sym, ap, subst, arith}
 use Rattle.std.specs.Prelude.{if◌then◌else◌, is_none}
 use Rattle.rv_csr.specs.declared.csrs.Csrs.{Csrs}
 use Rattle.rv_csr.specs.Traps.{counted, pending}
@@ -16,7 +16,7 @@ use Rattle.hart_model.specs.Step.{cpu, outcome, step_by, after_decode, after_fet
 use Rattle.rv_cpu.specs.Batch.{counted_times, caught_up, from}
 use Rattle.rv_cpu.specs.Midway.{Midway, settled, midway, plainly, refused, executed_plainly}
 use Rattle.rv_cpu.specs.Plain.{is_plain, is_plain_decoded, is_plain_fetched, is_plain_instr, is_plain_outcome, is_device_access}
-use Rattle.rv_cpu.specs.Told.{event_told, events_told, state_told, told_midway, told_decoded, told_fetched, next_told}
+use Rattle.rv_cpu.specs.Told.{told_midway, told_decoded, told_fetched, next_told}
 use Rattle.rv_cpu.proofs.BatchLaws.{moved, with_csrs, outcome_moved, pending_times}
 
 -- what was told at s is the step of the hart with these counters, and a plain one
@@ -135,30 +135,3 @@ step_told lines behind s x free is =
 
     more : (n : ℕ) → suc n ≡ n + 1
     more n = omega arith
-
--- a plain step midway is at the same number
-pub step_midway : (s : State) (i : Instr) (o : Outcome) (m : Midway) → m ≡ executed_plainly s i o → m.state.step ≡ s.step
-step_midway s i o m is = ap (λ (n : Midway). n.state.step) is ∙ by_instr (is_plain_instr i)
-  where
-    by_outcome : (p : Outcome) → (plainly s p).state.step ≡ s.step
-    by_outcome (Does e) = by_effect (not (is_device_access e.access))
-      where
-        by_effect : (b : Bool) → (if b then midway s (Does e) else refused s).state.step ≡ s.step
-        by_effect true = refl
-        by_effect false = refl
-    by_outcome (Raises cause value) = refl
-
-    by_instr : (b : Bool) → (if b then plainly s o else refused s).state.step ≡ s.step
-    by_instr true = by_outcome o
-    by_instr false = refl
-
--- the parts of what is told
-pub told_is : (s : State) (told : Option (Event × State)) (event : Event) → Some event ≡ event_told told → told ≡ Some (event, state_told s told)
-told_is s None event is = absurd cc
-told_is s (Some x) event is =
-    let same : event ≡ x.0 = cc in
-    ap (λ (e : Event). Some (e, x.1)) (sym same)
-
-pub events_are : (told : Option (Event × State)) (event : Event) → Some event ≡ event_told told → events_told told ≡ event ∷ []
-events_are None event is = absurd cc
-events_are (Some x) event is = cc

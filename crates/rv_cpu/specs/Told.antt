@@ -35,10 +35,6 @@ abbrev pub state_told : State → Option (Event × State) → State
 state_told s None = s
 state_told s (Some x) = x.1
 
-abbrev pub event_told : Option (Event × State) → Option Event
-event_told None = None
-event_told (Some x) = Some x.0
-
 abbrev pub events_told : Option (Event × State) → List Event
 events_told None = []
 events_told (Some x) = x.0 ∷ []

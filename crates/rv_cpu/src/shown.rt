@@ -9,64 +9,15 @@ ghost use Rattle.hart_model.specs.Aligned.{IsAligned};
 ghost use Rattle.hart_model.specs.Machine.{hart};
 ghost use Rattle.hart_model.specs.State.{State};
 ghost use Rattle.rv_cpu.specs.Plain.{is_plain};
-ghost use Rattle.rv_cpu.specs.Midway.{at};
-ghost use Rattle.rv_cpu.specs.Told.{event_told, events_told, next_told, state_told, told_midway};
+ghost use Rattle.rv_cpu.specs.Told.{events_told, next_told, state_told};
 
 use crate::done::Done;
 use crate::engine::Engine;
 use crate::step::SIZE;
-use run_events::{Access, Event, Told, Watcher, show};
+use run_events::{Access, Event, Watcher, show};
 use rv_decode::decode;
 
 impl Engine {
-    // Ends a plain step whose instruction left this, and answers what it shows; of another one, nothing. The counters are
-    // so many steps behind, and stay where they are.
-    #[inline(always)]
-    fn tell(&mut self, behind: u32, told: Told, word: u32, done: Done) -> Option<Event>
-        requires { self.old.step + behind < MOST_STEPS }
-        ensures event { result ≡ event_told (told_midway behind told word (at 4 done self.old)) }
-        ensures state { self.new
-            ≡ state_told self.old (told_midway behind told word (at 4 done self.old)) }
-    {
-        let (result, next, access) = match done {
-            Done::Quiet { result, next } => (result, next, Access::Quiet),
-            Done::Accessed { result, access } => (result, self.next(SIZE), access),
-            _ => return None,
-        };
-        let event = Event::Exec {
-            step: self.steps + behind,
-            pc: self.pc,
-            word,
-            next,
-            result,
-            access,
-            told,
-        };
-        self.pc = next;
-        Some(event)
-    }
-
-    // Does the next step where it is a plain one, and answers what it shows; else nothing.
-    #[inline(always)]
-    fn next_event(&mut self, lines: u8, behind: u32) -> Option<Event>
-        requires { self.old.step + behind < MOST_STEPS }
-        ensures event { result ≡ event_told (next_told behind lines self.old) }
-        ensures state { self.new ≡ state_told self.old (next_told behind lines self.old) }
-    {
-        if !self.ram.holds(self.pc, SIZE) {
-            return None;
-        }
-        let word = self.ram.load(self.pc, SIZE);
-        match decode(word) {
-            Some(instr) => {
-                let told = self.told();
-                let done = self.execute_plainly(lines, word, SIZE, instr);
-                self.tell(behind, told, word, done)
-            }
-            None => None,
-        }
-    }
-
     // Does the next step where it is a plain one, and shows it; else nothing. The counters are so many steps behind, and
     // stay where they are. No interrupt waits.
     fn show_next<W: Watcher>(&mut self, lines: u8, behind: u32, seen: &mut W) -> bool
@@ -82,13 +33,31 @@ impl Engine {
         ensures size { W.ram_kib seen.new ≡ W.ram_kib seen.old }
         ensures made { W.make seen.new ≡ W.make seen.old }
     {
-        match self.next_event(lines, behind) {
-            Some(event) => {
-                show(event, seen);
-                true
-            }
-            None => false,
+        if !self.ram.holds(self.pc, SIZE) {
+            return false;
         }
+        let word = self.ram.load(self.pc, SIZE);
+        let Some(instr) = decode(word) else {
+            return false;
+        };
+        let told = self.told();
+        let (result, next, access) = match self.execute_plainly(lines, word, SIZE, instr) {
+            Done::Quiet { result, next } => (result, next, Access::Quiet),
+            Done::Accessed { result, access } => (result, self.next(SIZE), access),
+            _ => return false,
+        };
+        let event = Event::Exec {
+            step: self.steps + behind,
+            pc: self.pc,
+            word,
+            next,
+            result,
+            access,
+            told,
+        };
+        self.pc = next;
+        show(event, seen);
+        true
     }
 
     /// Does the next steps with these interrupt lines as long as they are plain ones, and only those below a number, and
