@@ -9,15 +9,59 @@ ghost use Rattle.hart_model.specs.Aligned.{IsAligned};
 ghost use Rattle.hart_model.specs.Machine.{hart};
 ghost use Rattle.hart_model.specs.State.{State};
 ghost use Rattle.rv_cpu.specs.Plain.{is_plain};
-ghost use Rattle.rv_cpu.specs.Told.{events_told, next_told, state_told};
+ghost use Rattle.rv_cpu.specs.Midway.{at};
+ghost use Rattle.rv_cpu.specs.Told.{events_told, next_told, state_told, told_midway};
 
 use crate::done::Done;
 use crate::engine::Engine;
 use crate::step::SIZE;
-use run_events::{Access, Event, Watcher, show};
+use run_events::{Access, Event, Told, Watcher, show};
 use rv_decode::decode;
 
 impl Engine {
+    // Ends a plain step whose instruction left this, and shows it; of another one it shows nothing. The counters are so many
+    // steps behind, and stay where they are.
+    fn tell<W: Watcher>(
+        &mut self,
+        behind: u32,
+        told: Told,
+        word: u32,
+        done: Done,
+        seen: &mut W,
+    ) -> bool
+        requires room { self.old.step + behind < MOST_STEPS }
+        requires fits { (event : Event) (next : State)
+            → told_midway behind told word (at 4 done self.old) ≡ Some (event, next)
+            → Fits (W.ram_kib seen.old) event }
+        ensures answer { result ≡ is_some (told_midway behind told word (at 4 done self.old)) }
+        ensures state { self.new
+            ≡ state_told self.old (told_midway behind told word (at 4 done self.old)) }
+        ensures seen { (h : List Event)
+            → W.has_seen seen.old h
+            → W.has_seen seen.new
+            (h ++ events_told (told_midway behind told word (at 4 done self.old))) }
+        ensures size { W.ram_kib seen.new ≡ W.ram_kib seen.old }
+        ensures made { W.make seen.new ≡ W.make seen.old }
+    {
+        let (result, next, access) = match done {
+            Done::Quiet { result, next } => (result, next, Access::Quiet),
+            Done::Accessed { result, access } => (result, self.next(SIZE), access),
+            _ => return false,
+        };
+        let event = Event::Exec {
+            step: self.steps + behind,
+            pc: self.pc,
+            word,
+            next,
+            result,
+            access,
+            told,
+        };
+        self.pc = next;
+        show(event, seen);
+        true
+    }
+
     // Does the next step where it is a plain one, and shows it; else nothing. The counters are so many steps behind, and
     // stay where they are. No interrupt waits.
     fn show_next<W: Watcher>(&mut self, lines: u8, behind: u32, seen: &mut W) -> bool
@@ -41,23 +85,8 @@ impl Engine {
             return false;
         };
         let told = self.told();
-        let (result, next, access) = match self.execute_plainly(lines, word, SIZE, instr) {
-            Done::Quiet { result, next } => (result, next, Access::Quiet),
-            Done::Accessed { result, access } => (result, self.next(SIZE), access),
-            _ => return false,
-        };
-        let event = Event::Exec {
-            step: self.steps + behind,
-            pc: self.pc,
-            word,
-            next,
-            result,
-            access,
-            told,
-        };
-        self.pc = next;
-        show(event, seen);
-        true
+        let done = self.execute_plainly(lines, word, SIZE, instr);
+        self.tell(behind, told, word, done, seen)
     }
 
     /// Does the next steps with these interrupt lines as long as they are plain ones, and only those below a number, and
