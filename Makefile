@@ -16,7 +16,6 @@ demo:
 test:
 	.ci/run
 
-install:
-	test -x $(program) || $(MAKE) all
+install: all
 	install -d $(DESTDIR)$(PREFIX)/bin
 	install -m 755 $(program) $(DESTDIR)$(PREFIX)/bin/aftersight

@@ -19,6 +19,7 @@ help_says_the_statuses = record {
   image = λ _. refl;
   script = λ _. refl;
   files = refl;
+  output = refl;
   memory = refl;
   not_built = refl;
 }

@@ -55,7 +55,7 @@ pub record SaysTheBounds (text : List ℕ) : Type 0 where
 abbrev pub SaysStatus : List ℕ → ℕ → List ℕ → Type 0
 SaysStatus text status meaning = Says text (codes " " ++ decimal status ++ codes " " ++ meaning)
 
--- the statuses that runs and refusals end with
+-- the statuses that runs and refusals end with; 6 is that of an output that was cut off
 pub record SaysTheStatuses (text : List ℕ) : Type 0 where
   pub done : SaysStatus text (job.status_of (Power 0) false) (codes "done")
   pub finding : SaysStatus text (job.status_of (Power 0) true) (codes "a finding")
@@ -68,5 +68,6 @@ pub record SaysTheStatuses (text : List ℕ) : Type 0 where
       SaysStatus text (refusal.status_of (Inputs (input.Script fault))) (codes "script refused")
   pub files : Says text
       (codes "\n" ++ decimal (refusal.status_of (Inputs input.Files)) ++ codes " files failed")
+  pub output : SaysStatus text 6 (codes "output failed")
   pub memory : SaysStatus text (refusal.status_of NoMemory) (codes "no memory")
   pub not_built : SaysStatus text (refusal.status_of NotBuilt) (codes "not built")

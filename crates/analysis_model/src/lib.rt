@@ -1,4 +1,4 @@
-//! The definitions of the analyses: findings, stop, released output, report, and a job's text and status.
+//! The definitions of the five analyses and of the report's lines, and what the report's head tells.
 #![tactic(auto)]
 
 mod facts;

@@ -19,7 +19,9 @@ use crate::rings::{Frames, empty_rings};
 use elf_image::Image;
 use finding_tally::Tally;
 use memory_map::{NoMemory, SharedByThreads};
-use run_events::{Announcement, Event, Finding, FindingKind, Told, Watcher, may_announce};
+use run_events::{
+    Announcement, CONTEXTS, Event, Finding, FindingKind, Told, Watcher, may_announce,
+};
 use rv_decode::Link;
 use std::alloc::Global;
 use std::marker::Model;
@@ -74,13 +76,14 @@ impl Watcher for Calls {
 impl Calls {
     /// Nothing seen yet, of a guest with `ram_kib` KiB of RAM; its image tells nothing of calls. It is the only call that
     /// takes memory.
-    pub fn new(alloc: Global, _image: &Image, ram_kib: u32) -> Result<Calls, NoMemory>
+    pub fn new(alloc: Global, image: &Image, ram_kib: u32) -> Result<Calls, NoMemory>
         requires least { LEAST_RAM_KIB ≤ ram_kib }
         requires most { ram_kib ≤ MOST_RAM_KIB }
         ensures seen { IfOk result (λ c. Stands c []) }
         ensures size { IfOk result (λ c. c.ram_kib ≡ ram_kib) }
-        ensures made { IfOk result (λ c. make_now c ≡ make_of kind.Calls _image.now) }
+        ensures made { IfOk result (λ c. make_now c ≡ make_of kind.Calls image.now) }
     {
+        let _image = image;
         Ok(Calls {
             ram_kib,
             context: 0,
@@ -230,7 +233,7 @@ impl Calls {
         ensures { self.new ≡ in_context self.old (entered (announced_by word told)) }
     {
         if let Some(Announcement::Enter { context }) = Announcement::of(word, told) {
-            if context <= 63 {
+            if context < CONTEXTS {
                 self.context = context as usize;
             }
         }

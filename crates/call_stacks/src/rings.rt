@@ -5,14 +5,13 @@ ghost use Rattle.analysis_model.specs.Calls.{frames_kept};
 
 use circular_buffer::HeapCircularBuffer;
 use memory_map::NoMemory;
+use run_events::CONTEXTS;
 use std::alloc::Global;
 
 /// The return addresses that a context waits for, the newest first.
 pub type Frames = HeapCircularBuffer<u32>;
 
 const FRAMES: usize = 4096;
-
-const CONTEXTS: u32 = 64;
 
 /// An empty ring for each context.
 #[tactic(auto, unfolding(analysis_model::specs::Calls::frames_kept))]

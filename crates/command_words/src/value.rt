@@ -8,9 +8,10 @@ use memory_map::{LEAST_RAM_KIB, MOST_RAM_KIB, MOST_STEPS};
 use run_events::Kind;
 use run_settings::{Kinds, Letter, Turns};
 
-/// The fewest and the most places that a log has.
+/// The fewest places that a log has.
 pub const LEAST_LOG: u32 = 16;
 
+/// The most places that a log has.
 pub const MOST_LOG: u32 = 65_536;
 
 /// The most threads.

@@ -1,2 +1,2 @@
-//! Formats: which bytes give which script, and the first fault of those that give none.
+//! Formats: which bytes are which script and which image, each with the first fault of those that are none.
 #![tactic(auto)]

@@ -63,7 +63,7 @@ remainder a b = if b == 0 then a else bits (int_rem (signed a) (signed b))
 abbrev pub remainder_unsigned : ℕ → ℕ → ℕ
 remainder_unsigned a b = if b == 0 then a else a % b
 
--- what an operation makes of a register and an immediate. (2.4.1)
+-- what an operation makes of a register and an immediate. (2.4)
 abbrev pub immediate_result : ImmOp → ℕ → ℕ → ℕ
 immediate_result Addi a b = sum a b
 immediate_result Slti a b = flag (int_lt (signed a) (signed b))
@@ -75,7 +75,7 @@ immediate_result Slli a b = shifted_left a b
 immediate_result Srli a b = shifted_right a b
 immediate_result Srai a b = shifted_signed a b
 
--- what an operation makes of two registers. (2.4.2, 7.1 and 7.2)
+-- what an operation makes of two registers. (2.4, 7.1 and 7.2)
 abbrev pub register_result : RegOp → ℕ → ℕ → ℕ
 register_result Add a b = sum a b
 register_result Sub a b = difference a b
@@ -96,7 +96,7 @@ register_result Divu a b = quotient_unsigned a b
 register_result Rem a b = remainder a b
 register_result Remu a b = remainder_unsigned a b
 
--- whether a branch is taken, by its two registers. (2.5.2)
+-- whether a branch is taken, by its two registers. (2.5)
 abbrev pub is_taken : BranchOp → ℕ → ℕ → Bool
 is_taken Beq a b = a == b
 is_taken Bne a b = not (a == b)

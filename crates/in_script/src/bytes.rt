@@ -45,12 +45,4 @@ impl Bytes {
     {
         self.items.is_empty()
     }
-
-    /// The bytes as a Vec. It takes no memory.
-    pub fn into_vec(self) -> Vec<u8>
-        ensures { result.items ≡ self }
-    {
-        let Bytes { items } = self;
-        items
-    }
 }

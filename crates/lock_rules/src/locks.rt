@@ -22,7 +22,9 @@ use crate::lock::{Lock, holder_of, is_held_by, is_known, place_of, set_holder};
 use elf_image::Image;
 use finding_tally::Tally;
 use memory_map::{NoMemory, SharedByThreads};
-use run_events::{Access, Announcement, Event, Finding, FindingKind, Watcher, may_announce};
+use run_events::{
+    Access, Announcement, CONTEXTS, Event, Finding, FindingKind, Watcher, may_announce,
+};
 use shadow_state::Shadow;
 use std::alloc::Global;
 use std::marker::Model;
@@ -88,13 +90,14 @@ impl Watcher for Locks {
 impl Locks {
     /// Nothing seen yet, of a guest with `ram_kib` KiB of RAM; its image tells nothing of locks. It is the only call that
     /// takes memory.
-    pub fn new(alloc: Global, _image: &Image, ram_kib: u32) -> Result<Locks, NoMemory>
+    pub fn new(alloc: Global, image: &Image, ram_kib: u32) -> Result<Locks, NoMemory>
         requires least { LEAST_RAM_KIB ≤ ram_kib }
         requires most { ram_kib ≤ MOST_RAM_KIB }
         ensures seen { IfOk result (λ l. Stands l []) }
         ensures size { IfOk result (λ l. l.ram_kib ≡ ram_kib) }
-        ensures made { IfOk result (λ l. make_now l ≡ make_of kind.Locks _image.now) }
+        ensures made { IfOk result (λ l. make_now l ≡ make_of kind.Locks image.now) }
     {
+        let _image = image;
         Ok(Locks {
             ram_kib,
             context: 0,
@@ -335,7 +338,7 @@ impl Locks {
     fn enter(&mut self, context: u32)
         ensures { self.new ≡ told_state self.old (Some (announce.Enter context)) }
     {
-        if context <= 63 {
+        if context < CONTEXTS {
             self.context = context;
         }
     }

@@ -1,2 +1,2 @@
-//! The definitions of the machine: image, open step, finished run, output and log of a run.
+//! The definitions of images, scripts and the board.
 #![tactic(auto)]

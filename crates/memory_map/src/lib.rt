@@ -20,22 +20,25 @@ pub const GRAIN: u32 = 4;
 /// The most steps of a run; the largest number of a record.
 pub const MOST_STEPS: u32 = 1_000_000_000;
 
-/// The sizes that RAM may have, in KiB.
+/// The smallest size that RAM may have, in KiB.
 pub const LEAST_RAM_KIB: u32 = 64;
 
+/// The largest size that RAM may have, in KiB.
 pub const MOST_RAM_KIB: u32 = 16_384;
 
 /// The address of RAM's first byte.
 pub const RAM_START: u32 = 0x8000_0000;
 
-/// The time at which the timer's interrupt line rises, in halves.
+/// The lower half of the time at which the timer's interrupt line rises.
 pub const MTIMECMP_LOW: u32 = 0x0200_4000;
 
+/// The upper half of that time.
 pub const MTIMECMP_HIGH: u32 = 0x0200_4004;
 
-/// The timer, in halves.
+/// The lower half of the timer.
 pub const MTIME_LOW: u32 = 0x0200_bff8;
 
+/// The upper half of the timer.
 pub const MTIME_HIGH: u32 = 0x0200_bffc;
 
 /// The serial line's data register: a load takes the next byte that arrived, a store sends its low byte.
@@ -47,11 +50,13 @@ pub const SERIAL_STATUS: u32 = 0x1000_0004;
 /// Whether a waiting byte raises the external interrupt line.
 pub const SERIAL_CTRL: u32 = 0x1000_0008;
 
-/// The disk's next command: its sector, its address in RAM, and the command itself.
+/// The sector of the disk's next command.
 pub const DISK_SECTOR: u32 = 0x1000_1000;
 
+/// The address in RAM of the next command: what is read goes there, what is written comes from there.
 pub const DISK_ADDR: u32 = 0x1000_1004;
 
+/// The command itself: a store starts it.
 pub const DISK_CMD: u32 = 0x1000_1008;
 
 /// What the disk is about: idle, busy, done or refused.

@@ -5,6 +5,9 @@ ghost use Rattle.run_events.specs.Announcement.{announced_by, is_idle_compare};
 
 use crate::Told;
 
+/// How many contexts a guest may run in.
+pub const CONTEXTS: u32 = 64;
+
 /// What a guest tells by executing `slti x0, x0, k`, an instruction without an effect, with its arguments in a0, a1 and
 /// a2. A block or a range is `size` bytes from `address` on, as whole numbers that do not wrap.
 #[derive(Clone, Copy, Debug, PartialEq, Eq)]
@@ -17,7 +20,7 @@ pub enum Announcement {
     Acquire { lock: u32 },
     /// k = 4: the lock is released.
     Release { lock: u32 },
-    /// k = 5: the context is now this one. Above 63 it changes nothing.
+    /// k = 5: the context is now this one. One that is not below `CONTEXTS` changes nothing.
     Enter { context: u32 },
     /// k = 6: the bytes of the range must be unmarked.
     Check { address: u32, size: u32 },

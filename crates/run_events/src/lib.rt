@@ -15,7 +15,7 @@ mod watcher;
 mod words;
 
 pub use access::{Access, Told};
-pub use announcement::{Announcement, may_announce};
+pub use announcement::{Announcement, CONTEXTS, may_announce};
 pub use event::Event;
 pub use fault::{Diverged, Why};
 pub use finding::{Finding, FindingKind, Kind};

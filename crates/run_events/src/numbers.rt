@@ -31,6 +31,20 @@ pub(crate) fn rank(r: &Record) -> u32
     }
 }
 
+// Whether a record is a word of the disk.
+pub(crate) fn is_dma(r: &Record) -> bool
+    ensures { result ≡ order.is_dma r.now }
+{
+    matches!(r, Record::Dma { .. })
+}
+
+// Whether a record is the end of a log.
+pub(crate) fn is_end(r: &Record) -> bool
+    ensures { result ≡ order.is_end r.now }
+{
+    matches!(r, Record::End { .. })
+}
+
 /// Whether a record has words: its number, its lines and its mark are in range.
 pub fn is_record(r: &Record) -> bool
     ensures { IsTrue result ↔ order.IsRecord r.now }

@@ -3,7 +3,7 @@ ghost use Rattle.std.specs.Prelude.{◌≡◌};
 ghost use Rattle.run_events.specs.Record as order;
 
 use crate::Record;
-use crate::numbers::{number, rank};
+use crate::numbers::{is_dma, is_end, number, rank};
 
 // The most words of the disk that have one number.
 const MOST_WORDS: u32 = 128;
@@ -12,9 +12,9 @@ const MOST_WORDS: u32 = 128;
 fn may_follow(last: &Record, words: u32, r: &Record) -> bool
     ensures { order.TellsFollow last.now words r.now result }
 {
-    let more_words = rank(last) == 1 && rank(r) == 1 && words < MOST_WORDS;
+    let more_words = is_dma(last) && is_dma(r) && words < MOST_WORDS;
     let rises = rank(last) < rank(r) || more_words;
-    rank(last) != 4 && (number(last) < number(r) || number(last) == number(r) && rises)
+    !is_end(last) && (number(last) < number(r) || number(last) == number(r) && rises)
 }
 
 // Whether a record and the last one are words of the disk with one number.
@@ -22,7 +22,7 @@ fn is_next_dma(last: Option<Record>, r: &Record) -> bool
     ensures { result ≡ order.is_next_dma last r.now }
 {
     match last {
-        Some(last) => rank(&last) == 1 && rank(r) == 1 && number(&last) == number(r),
+        Some(last) => is_dma(&last) && is_dma(r) && number(&last) == number(r),
         None => false,
     }
 }
@@ -33,7 +33,7 @@ fn words_with(last: Option<Record>, words: u32, r: &Record) -> u32
 {
     if is_next_dma(last, r) {
         words.saturating_add(1)
-    } else if rank(r) == 1 {
+    } else if is_dma(r) {
         1
     } else {
         0

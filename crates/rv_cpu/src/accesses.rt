@@ -14,6 +14,7 @@ use crate::done::Done;
 use crate::engine::Engine;
 use memory_map::is_device;
 use run_events::{Access, Supplied};
+use rv_csr::causes::{LOAD_FAULT, LOAD_MISALIGNED, STORE_FAULT, STORE_MISALIGNED};
 use rv_decode::{LoadOp, StoreOp};
 
 /// Whether an address is a multiple of a width.
@@ -147,7 +148,7 @@ impl Engine {
     {
         if !is_device(address) {
             return Done::Raised {
-                cause: 5,
+                cause: LOAD_FAULT,
                 value: address,
             };
         }
@@ -185,7 +186,7 @@ impl Engine {
         let width = alu::load_width(op);
         if !is_aligned(address, width) {
             Done::Raised {
-                cause: 4,
+                cause: LOAD_MISALIGNED,
                 value: address,
             }
         } else if self.ram.holds(address, width) {
@@ -271,7 +272,7 @@ impl Engine {
     {
         if !is_device(address) {
             return Done::Raised {
-                cause: 7,
+                cause: STORE_FAULT,
                 value: address,
             };
         }
@@ -302,7 +303,7 @@ impl Engine {
         let width = alu::store_width(op);
         if !is_aligned(address, width) {
             Done::Raised {
-                cause: 6,
+                cause: STORE_MISALIGNED,
                 value: address,
             }
         } else if self.ram.holds(address, width) {

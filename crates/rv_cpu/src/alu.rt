@@ -124,7 +124,7 @@ fn remainder_unsigned(a: u32, b: u32) -> u32
     if b == 0 { a } else { a % b }
 }
 
-/// What an operation makes of two registers. (2.4.2, 7.1 and 7.2)
+/// What an operation makes of two registers. (2.4, 7.1 and 7.2)
 #[inline(always)]
 pub fn register(op: RegOp, a: u32, b: u32) -> u32
     ensures { result ≡ operations.register_result op a b }

@@ -11,6 +11,7 @@ use crate::alu;
 use crate::done::Done;
 use crate::engine::Engine;
 use run_events::Access;
+use rv_csr::causes::{LOAD_FAULT, LOAD_MISALIGNED, STORE_FAULT, STORE_MISALIGNED};
 use rv_decode::AtomicOp;
 
 /// Whether the reservation is of the word at this address.
@@ -32,13 +33,13 @@ impl Engine {
     {
         if !is_aligned(address, 4) {
             return Done::Raised {
-                cause: 4,
+                cause: LOAD_MISALIGNED,
                 value: address,
             };
         }
         if !self.ram.holds(address, 4) {
             return Done::Raised {
-                cause: 5,
+                cause: LOAD_FAULT,
                 value: address,
             };
         }
@@ -88,14 +89,14 @@ impl Engine {
     {
         if !is_aligned(address, 4) {
             Done::Raised {
-                cause: 6,
+                cause: STORE_MISALIGNED,
                 value: address,
             }
         } else if self.ram.holds(address, 4) {
             self.store_reserved(size, rd, value, address)
         } else {
             Done::Raised {
-                cause: 7,
+                cause: STORE_FAULT,
                 value: address,
             }
         }
@@ -109,13 +110,13 @@ impl Engine {
     {
         if !is_aligned(address, 4) {
             return Done::Raised {
-                cause: 6,
+                cause: STORE_MISALIGNED,
                 value: address,
             };
         }
         if !self.ram.holds(address, 4) {
             return Done::Raised {
-                cause: 7,
+                cause: STORE_FAULT,
                 value: address,
             };
         }

@@ -76,7 +76,7 @@ impl Engine {
 
     // Loads from RAM.
     #[inline(always)]
-    fn fetch_as(
+    fn batch_load_as(
         &mut self,
         size: u32,
         pc: u32,
@@ -101,8 +101,9 @@ impl Engine {
         self.give(size, pc, rd, alu::loaded(op, value))
     }
 
+    // A body of its own for each operation, in which the compiler knows the width.
     #[inline(always)]
-    fn fetch(
+    fn batch_load(
         &mut self,
         size: u32,
         pc: u32,
@@ -119,17 +120,17 @@ impl Engine {
             (sum (register self.old rs1) offset)) }
     {
         match op {
-            LoadOp::Lb => self.fetch_as(size, pc, LoadOp::Lb, rd, rs1, offset),
-            LoadOp::Lh => self.fetch_as(size, pc, LoadOp::Lh, rd, rs1, offset),
-            LoadOp::Lw => self.fetch_as(size, pc, LoadOp::Lw, rd, rs1, offset),
-            LoadOp::Lbu => self.fetch_as(size, pc, LoadOp::Lbu, rd, rs1, offset),
-            LoadOp::Lhu => self.fetch_as(size, pc, LoadOp::Lhu, rd, rs1, offset),
+            LoadOp::Lb => self.batch_load_as(size, pc, LoadOp::Lb, rd, rs1, offset),
+            LoadOp::Lh => self.batch_load_as(size, pc, LoadOp::Lh, rd, rs1, offset),
+            LoadOp::Lw => self.batch_load_as(size, pc, LoadOp::Lw, rd, rs1, offset),
+            LoadOp::Lbu => self.batch_load_as(size, pc, LoadOp::Lbu, rd, rs1, offset),
+            LoadOp::Lhu => self.batch_load_as(size, pc, LoadOp::Lhu, rd, rs1, offset),
         }
     }
 
     // Stores to RAM.
     #[inline(always)]
-    fn keep_as(
+    fn batch_store_as(
         &mut self,
         size: u32,
         pc: u32,
@@ -155,8 +156,9 @@ impl Engine {
         self.give(size, pc, 0, 0)
     }
 
+    // The same for stores.
     #[inline(always)]
-    fn keep(
+    fn batch_store(
         &mut self,
         size: u32,
         pc: u32,
@@ -173,9 +175,9 @@ impl Engine {
             (sum (register self.old rs1) offset)) }
     {
         match op {
-            StoreOp::Sb => self.keep_as(size, pc, StoreOp::Sb, rs2, rs1, offset),
-            StoreOp::Sh => self.keep_as(size, pc, StoreOp::Sh, rs2, rs1, offset),
-            StoreOp::Sw => self.keep_as(size, pc, StoreOp::Sw, rs2, rs1, offset),
+            StoreOp::Sb => self.batch_store_as(size, pc, StoreOp::Sb, rs2, rs1, offset),
+            StoreOp::Sh => self.batch_store_as(size, pc, StoreOp::Sh, rs2, rs1, offset),
+            StoreOp::Sw => self.batch_store_as(size, pc, StoreOp::Sw, rs2, rs1, offset),
         }
     }
 
@@ -202,10 +204,10 @@ impl Engine {
                 self.fork(size, pc, taken, pc.wrapping_add(imm.cast_unsigned()))
             }
             Instr::Load { op, rd, rs1, imm } => {
-                self.fetch(size, pc, op, rd, rs1, imm.cast_unsigned())
+                self.batch_load(size, pc, op, rd, rs1, imm.cast_unsigned())
             }
             Instr::Store { op, rs1, rs2, imm } => {
-                self.keep(size, pc, op, rs2, rs1, imm.cast_unsigned())
+                self.batch_store(size, pc, op, rs2, rs1, imm.cast_unsigned())
             }
             Instr::OpImm { op, rd, rs1, imm } => {
                 let value = self.immediate(op, rs1, imm.cast_unsigned());

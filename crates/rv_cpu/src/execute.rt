@@ -8,6 +8,7 @@ use crate::alu;
 use crate::done::Done;
 use crate::engine::Engine;
 use run_events::Supplied;
+use rv_csr::causes::{BREAKPOINT, MACHINE_CALL};
 use rv_decode::Instr;
 
 impl Engine {
@@ -76,10 +77,13 @@ impl Engine {
                 csr,
             } => self.do_csr(lines, size, op, word, rd, source, csr),
             Instr::Ecall => Done::Raised {
-                cause: 11,
+                cause: MACHINE_CALL,
                 value: 0,
             },
-            Instr::Ebreak => Done::Raised { cause: 3, value: 0 },
+            Instr::Ebreak => Done::Raised {
+                cause: BREAKPOINT,
+                value: 0,
+            },
             Instr::Mret => self.return_from_trap(size),
         }
     }

@@ -9,6 +9,7 @@ ghost use Rattle.rv_cpu.specs.Midway.{at, midway, plainly};
 use crate::done::Done;
 use crate::engine::Engine;
 use memory_map::GRAIN;
+use rv_csr::causes::INSTRUCTION_MISALIGNED;
 
 impl Engine {
     /// Goes on to the instruction after this one, which writes nothing.
@@ -60,7 +61,7 @@ impl Engine {
             self.link(size, rd, target)
         } else {
             Done::Raised {
-                cause: 0,
+                cause: INSTRUCTION_MISALIGNED,
                 value: target,
             }
         }

@@ -10,7 +10,7 @@ use crate::engine::Engine;
 use rv_decode::{BranchOp, ImmOp};
 
 impl Engine {
-    /// Whether a branch is taken, by its two registers. (2.5.2)
+    /// Whether a branch is taken, by its two registers. (2.5)
     #[inline(always)]
     pub fn takes_branch(&self, op: BranchOp, rs1: u32, rs2: u32) -> bool
         requires rs1 { IsRegister rs1 }
@@ -27,7 +27,7 @@ impl Engine {
         }
     }
 
-    /// What an operation makes of a register and an immediate. (2.4.1)
+    /// What an operation makes of a register and an immediate. (2.4)
     #[inline(always)]
     pub fn immediate(&self, op: ImmOp, rs1: u32, b: u32) -> u32
         requires { IsRegister rs1 }

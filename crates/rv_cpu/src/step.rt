@@ -13,6 +13,7 @@ use crate::atomics::is_reserved;
 use crate::done::Done;
 use crate::engine::Engine;
 use run_events::{Access, Event, Supplied, Told};
+use rv_csr::causes::{ILLEGAL_INSTRUCTION, INSTRUCTION_FAULT};
 use rv_decode::{Instr, LoadOp, StoreOp, decode};
 
 /// The bytes of an instruction.
@@ -200,12 +201,12 @@ impl Engine {
             return self.interrupt(cause);
         }
         if !self.ram.holds(self.pc, SIZE) {
-            return self.trap(0, 1, self.pc);
+            return self.trap(0, INSTRUCTION_FAULT, self.pc);
         }
         let word = self.ram.load(self.pc, SIZE);
         match decode(word) {
             Some(instr) => self.run_shortly(lines, supplied, word, SIZE, instr),
-            None => self.trap(word, 2, word),
+            None => self.trap(word, ILLEGAL_INSTRUCTION, word),
         }
     }
 

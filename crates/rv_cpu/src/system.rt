@@ -12,6 +12,7 @@ ghost use Rattle.rv_cpu.specs.Midway.{at, midway};
 use crate::alu;
 use crate::done::Done;
 use crate::engine::Engine;
+use rv_csr::causes::ILLEGAL_INSTRUCTION;
 use rv_decode::CsrOp;
 
 impl Engine {
@@ -48,7 +49,7 @@ impl Engine {
         match self.csrs.write(csr, value) {
             Some(()) => self.write(size, rd, old),
             None => Done::Raised {
-                cause: 2,
+                cause: ILLEGAL_INSTRUCTION,
                 value: word,
             },
         }
@@ -98,7 +99,7 @@ impl Engine {
         match self.read_csr(lines, op, rd, csr) {
             Some(old) => self.change_csr(size, op, word, rd, source, csr, old),
             None => Done::Raised {
-                cause: 2,
+                cause: ILLEGAL_INSTRUCTION,
                 value: word,
             },
         }

@@ -2,6 +2,7 @@
 #![tactic(auto)]
 
 pub mod addresses;
+pub mod causes;
 mod counters;
 mod csrs;
 mod table;

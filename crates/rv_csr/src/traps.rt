@@ -2,12 +2,8 @@
 ghost use Rattle.std.specs.Prelude.{◌≡◌};
 ghost use Rattle.rv_csr.specs.Traps as model;
 
+use crate::causes::{EXTERNAL_INTERRUPT, TIMER_INTERRUPT};
 use crate::csrs::Csrs;
-
-// The causes of the interrupts. (Privileged manual, 3.1.15.)
-const EXTERNAL_INTERRUPT: u32 = 0x8000_000b;
-
-const TIMER_INTERRUPT: u32 = 0x8000_0007;
 
 impl Csrs {
     /// Enters a trap with this cause and value at this pc, and answers the pc of its handler: mtvec's base, or in vectored

@@ -9,6 +9,7 @@ use memory_map::{
     MTIMECMP_HIGH, MTIMECMP_LOW, POWER, SERIAL_CTRL, SERIAL_DATA, SERIAL_STATUS,
 };
 
+/// A device register.
 #[derive(Clone, Copy)]
 pub enum Register {
     CompareLow,
