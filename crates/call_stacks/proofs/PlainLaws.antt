@@ -5,9 +5,11 @@ use Rattle.std.proofs.lemmas.Bool.{cases_eq}
 use Rattle.std.proofs.lemmas.Bool.Decides.{nat_tests}
 use Rattle.rv_decode.specs.declared.links.Link.{Link}
 use Rattle.rv_decode.specs.declared.links.Link.TheVariants as link
-use Rattle.rv_decode.specs.Fields.{opcode_of}
+use Rattle.rv_decode.specs.Fields.{opcode_of, rd_of, immediate_j}
 use Rattle.rv_decode.specs.Links.{link_of}
+use Rattle.rv_decode.specs.declared.instruction.Instr.TheVariants.{Jal}
 use Rattle.rv_decode.specs.Listing.{Row, meets, read_by, rows, instruction}
+use Rattle.rv_decode.proofs.ListingLaws.{jal_words}
 use Rattle.analysis_model.specs.Calls.{link_as}
 
 abbrev is_jump : ℕ → Bool
@@ -63,3 +65,15 @@ unfolding instruction
 plain_word word jal jalr =
     let elsewhere : is_jump (opcode_of word) ≡ false = grind (arith, nat_tests) in
     sym (plain_read rows word (rows_plain word) elsewhere)
+
+-- the usual return, and the usual call
+pub return_word : link.Pop ≡ link_as (instruction 0x8067)
+unfolding instruction rows
+return_word = refl
+
+pub call_word : (word : ℕ) → word % 4096 ≡ 0xef → link.Push ≡ link_as (instruction word)
+call_word word call =
+    let opcode : opcode_of word ≡ 0x6f = omega (arith, call) in
+    let rd : rd_of word ≡ 1 = omega (arith, call) in
+    let reads : instruction word ≡ Some (Jal (rd_of word) (immediate_j word)) = jal_words word opcode ∙ simp opcode refl in
+    sym (ap link_as reads ∙ ap (λ (r : ℕ). link_of (Jal r (immediate_j word))) rd)

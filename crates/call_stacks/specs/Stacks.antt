@@ -8,6 +8,7 @@ use Rattle.rv_decode.specs.Listing.{instruction}
 use Rattle.run_events.specs.declared.event.Event.{Event}
 use Rattle.run_events.specs.declared.event.Event.TheVariants.{Dma, Irq, Trap, Exec}
 use Rattle.run_events.specs.declared.finding.Finding.{Finding}
+use Rattle.run_events.specs.declared.finding.FindingKind.TheVariants.{Return}
 use Rattle.run_events.specs.declared.finding.Kind.TheVariants as kind
 use Rattle.run_events.specs.Announcement.{announced_by}
 use Rattle.analysis_model.specs.Calls.{Move, moves_in, answered, return_to, unmatched_count, link_as, frames_kept}
@@ -82,6 +83,10 @@ front_of s = slice_get (ring_of s s.context).items 0
 -- the finding of a return that goes elsewhere than to the address that its call pushed
 abbrev pub found_by : Option ℕ → ℕ → ℕ → ℕ → Option Finding
 found_by answer step pc next = option_map (λ (c : Complaint). record { step = step; pc = pc; kind = c.kind; address = c.address }) (return_to answer next)
+
+-- with the finding of a return that goes elsewhere than to this address
+abbrev pub misled : Stacks → ℕ → ℕ → ℕ → Stacks
+misled s step pc wanted = record s { found = tallied_with s.found (Some (record { step = step; pc = pc; kind = Return; address = wanted })) }
 
 -- the number of pops that answer no push, with one pop more
 abbrev pub unmatched_with : ℕ → Option ℕ → ℕ

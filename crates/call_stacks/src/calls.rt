@@ -12,7 +12,7 @@ ghost use Rattle.analysis_model.specs.Complaints.{findings};
 ghost use Rattle.analysis_model.specs.Context.{entered};
 ghost use Rattle.analysis_model.specs.Findings.{first_step, tally, kept};
 ghost use Rattle.analysis_model.specs.Made.{make_of};
-ghost use Rattle.call_stacks.specs.Stacks.{Stacks, Stands, make_now, guest_now, unmatched_in, pushed, popped, front_of, judged, returned, moved, in_context, after};
+ghost use Rattle.call_stacks.specs.Stacks.{Stacks, Stands, make_now, guest_now, unmatched_in, pushed, popped, front_of, judged, misled, returned, moved, in_context, after};
 
 use crate::moves::{link_of_word, may_link};
 use crate::rings::{Frames, empty_rings};
@@ -163,11 +163,19 @@ impl Calls {
             Link::Plain => {}
             Link::Push => self.push(pc),
             Link::Pop => self.pop(step, pc, next),
-            Link::PopPush => {
-                self.pop(step, pc, next);
-                self.push(pc);
-            }
+            Link::PopPush => self.pop_push(step, pc, next),
         }
+    }
+
+    // A return that is a call as well. It is rare, and stands apart.
+    #[cold]
+    #[inline(never)]
+    fn pop_push(&mut self, step: u32, pc: u32, next: u32)
+        requires { IsWordInRam self.old.ram_kib pc }
+        ensures { self.new ≡ pushed (returned self.old step pc next) (pc + 4) }
+    {
+        self.pop(step, pc, next);
+        self.push(pc);
     }
 
     // The call at `pc` returns to the instruction after it.
@@ -196,6 +204,7 @@ impl Calls {
         frames.pop_front()
     }
 
+    #[inline(always)]
     fn judge(&mut self, answer: Option<u32>, step: u32, pc: u32, next: u32)
         ensures { self.new ≡ judged self.old answer step pc next }
     {
@@ -203,15 +212,25 @@ impl Calls {
             None => self.unmatched = self.unmatched.saturating_add(1),
             Some(wanted) => {
                 if wanted != next {
-                    self.found.add(Finding {
-                        step,
-                        pc,
-                        kind: FindingKind::Return,
-                        address: wanted,
-                    });
+                    self.complain(step, pc, wanted);
                 }
             }
         }
+    }
+
+    // The return at `pc` went elsewhere than to where its call wanted. It stands apart, so that the returns that go where
+    // they should are not slowed down by it.
+    #[cold]
+    #[inline(never)]
+    fn complain(&mut self, step: u32, pc: u32, wanted: u32)
+        ensures { self.new ≡ misled self.old step pc wanted }
+    {
+        self.found.add(Finding {
+            step,
+            pc,
+            kind: FindingKind::Return,
+            address: wanted,
+        });
     }
 
     // Of the three arguments that may be told, the first one alone matters.

@@ -4,3 +4,4 @@ pub mod ShownLaws
 pub mod CpuLaws
 pub mod MidwayLaws
 pub mod PlainLaws
+pub mod IdleLaws

@@ -98,12 +98,16 @@ none_told lines behind s free is =
     ap (λ (cause : Option ℕ). is_none cause && is_plain_fetched (caught_up behind s) lines (fetched s.ram s.pc)) (pending_times behind lines s.csrs ∙ free)
     ∙ none_fetched s (counted_times behind s.csrs) behind (s.step + behind) lines (fetched s.ram s.pc) is
 
--- what is told of the instruction that was found at the pc
+-- what is told of the word that stands at the pc, and of its instruction
+pub told_word : (behind lines : ℕ) (s : State) (word : ℕ) → in_ram (length s.ram) s.pc 4 ≡ true → word ≡ loaded s.ram s.pc 4 → next_told behind lines s ≡ told_decoded behind lines s word 4 (instruction word)
+told_word behind lines s word there is =
+    ap (λ (b : Bool). told_fetched behind lines s (if b then Found (record { word = loaded s.ram s.pc 4; size = 4; instr = instruction (loaded s.ram s.pc 4) }) else Outside s.pc)) there
+    ∙ ap (λ (w : ℕ). told_decoded behind lines s w 4 (instruction w)) (sym is)
+
 pub told_found : (behind lines : ℕ) (s : State) (word : ℕ) (i : Instr) (m : Midway) → in_ram (length s.ram) s.pc 4 ≡ true → word ≡ loaded s.ram s.pc 4 → Some i ≡ instruction word → m ≡ executed_plainly s i (outcome s lines None word 4 i)
     → next_told behind lines s ≡ told_midway behind (told_by s.registers) word m
 told_found behind lines s word i m there is read done =
-    ap (λ (b : Bool). told_fetched behind lines s (if b then Found (record { word = loaded s.ram s.pc 4; size = 4; instr = instruction (loaded s.ram s.pc 4) }) else Outside s.pc)) there
-    ∙ ap (λ (w : ℕ). told_decoded behind lines s w 4 (instruction w)) (sym is) ∙ ap (told_decoded behind lines s word 4) (sym read) ∙ ap (told_midway behind (told_by s.registers) word) (sym done)
+    told_word behind lines s word there is ∙ ap (told_decoded behind lines s word 4) (sym read) ∙ ap (told_midway behind (told_by s.registers) word) (sym done)
 
 -- the step of the hart once its counters have caught up, where no interrupt waits
 pub record StepTold (lines behind : ℕ) (s : State) (x : Event × State) : Type 0 where

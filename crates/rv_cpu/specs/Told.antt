@@ -1,11 +1,13 @@
 -- A plain step of a hart whose counters are some steps behind: what it shows, and the hart after it.
 use Rattle.std.specs.Prelude.{ℕ, ◌+◌, List, [], ◌∷◌, Option, None, Some}
+use Rattle.run_events.specs.declared.access.Access.TheVariants.{Quiet}
 use Rattle.run_events.specs.declared.access.Told.{Told}
 use Rattle.run_events.specs.declared.event.Event.{Event}
 use Rattle.run_events.specs.declared.event.Event.TheVariants.{Exec}
 use Rattle.rv_decode.specs.declared.instruction.Instr.{Instr}
 use Rattle.hart_model.specs.Fetch.{Fetch, Found, Outside, fetched}
-use Rattle.hart_model.specs.State.{State, told_by}
+use Rattle.hart_model.specs.Operations.{sum}
+use Rattle.hart_model.specs.State.{State, told_by, with_register}
 use Rattle.hart_model.specs.Step.{outcome}
 use Rattle.rv_cpu.specs.Batch.{from}
 use Rattle.rv_cpu.specs.Midway.{Rest, Refused, Traps, Goes, Midway, executed_plainly}
@@ -29,6 +31,12 @@ told_fetched behind lines s (Outside address) = None
 
 abbrev pub next_told : (behind lines : ℕ) → State → Option (Event × State)
 next_told behind lines s = told_fetched behind lines s (fetched s.ram s.pc)
+
+-- what the word of slti x0, x0, k shows as that of a step, and the hart after it: it writes x0 alone
+abbrev pub idle_told : (step word : ℕ) → State → Event × State
+idle_told step word s =
+    let next = sum s.pc 4 in
+    (Exec step s.pc word next 0 Quiet (told_by s.registers), record s { registers = with_register s.registers 0 0; pc = next })
 
 -- the hart after it, and what it shows
 abbrev pub state_told : State → Option (Event × State) → State

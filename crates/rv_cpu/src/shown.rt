@@ -1,6 +1,6 @@
 //! Plain steps that are shown: the counters rise once, at the end.
 ghost use Rattle.memory_map.specs.declared.TheConstants.{MOST_STEPS};
-ghost use Rattle.std.specs.Prelude.{◌≡◌, ℕ, false, ◌+◌, ◌*◌, ◌<◌, ◌≤◌, List, ◌++◌, Option, None, Some, is_some, length};
+ghost use Rattle.std.specs.Prelude.{◌≡◌, ℕ, false, ◌+◌, ◌*◌, ◌<◌, ◌≤◌, List, ◌∷◌, [], ◌++◌, Option, None, Some, is_some, length};
 ghost use Rattle.any_machine.specs.Running.{RunSoFar, unfed};
 ghost use Rattle.run_events.specs.declared.event.Event.{Event};
 ghost use Rattle.run_events.specs.Event.{Fits};
@@ -10,12 +10,12 @@ ghost use Rattle.hart_model.specs.Machine.{hart};
 ghost use Rattle.hart_model.specs.State.{State};
 ghost use Rattle.rv_cpu.specs.Plain.{is_plain};
 ghost use Rattle.rv_cpu.specs.Midway.{at};
-ghost use Rattle.rv_cpu.specs.Told.{events_told, next_told, state_told, told_midway};
+ghost use Rattle.rv_cpu.specs.Told.{events_told, idle_told, next_told, state_told, told_midway};
 
 use crate::done::Done;
 use crate::engine::Engine;
 use crate::step::SIZE;
-use run_events::{Access, Event, Told, Watcher, show};
+use run_events::{Access, Event, Told, Watcher, may_announce, show};
 use rv_decode::decode;
 
 impl Engine {
@@ -62,8 +62,35 @@ impl Engine {
         true
     }
 
+    // Does the instruction `word` at the pc, which is slti x0, x0, k, and shows it as that of this step: it may announce
+    // something, and does nothing else. The counters stay where they are.
+    #[cold]
+    #[inline(never)]
+    fn show_idle<W: Watcher>(&mut self, step: u32, word: u32, seen: &mut W)
+        requires fits { Fits (W.ram_kib seen.old) (idle_told step word self.old).0 }
+        ensures state { self.new ≡ (idle_told step word self.old).1 }
+        ensures seen { (h : List Event)
+            → W.has_seen seen.old h
+            → W.has_seen seen.new (h ++ (idle_told step word self.old).0 ∷ []) }
+        ensures size { W.ram_kib seen.new ≡ W.ram_kib seen.old }
+        ensures made { W.make seen.new ≡ W.make seen.old }
+    {
+        let event = Event::Exec {
+            step,
+            pc: self.pc,
+            word,
+            next: self.next(SIZE),
+            result: self.put(0, 0),
+            access: Access::Quiet,
+            told: self.told(),
+        };
+        self.pc = self.next(SIZE);
+        seen.see(&event);
+    }
+
     // Does the next step where it is a plain one, and shows it; else nothing. The counters are so many steps behind, and
-    // stay where they are. No interrupt waits.
+    // stay where they are. No interrupt waits. The words that may announce something are done apart, so that the compiler
+    // knows of the others that they announce nothing: no watcher asks them again, and nothing is kept of x10 to x12.
     fn show_next<W: Watcher>(&mut self, lines: u8, behind: u32, seen: &mut W) -> bool
         requires room { self.old.step + behind < MOST_STEPS }
         requires fits { (event : Event) (next : State)
@@ -81,6 +108,10 @@ impl Engine {
             return false;
         }
         let word = self.ram.load(self.pc, SIZE);
+        if may_announce(word) {
+            self.show_idle(self.steps + behind, word, seen);
+            return true;
+        }
         let Some(instr) = decode(word) else {
             return false;
         };
