@@ -1,12 +1,14 @@
 -- A run of a replay, step by step as a loop does it.
-use Rattle.std.proofs.Common.{◌≡◌, ℕ, suc, ◌<◌, not, List, [], ◌∷◌, ◌++◌, None, sym, ap, ◌∙◌, subst, append-nil, append_assoc}
+use Rattle.std.proofs.Common.{◌≡◌, ℕ, suc, ◌<◌, not, List, [], ◌∷◌, ◌++◌, None, Some, refl, sym, ap, ◌∙◌, subst, append-nil, append_assoc}
 use Rattle.std.specs.Prelude.{true, is_some}
 use Rattle.run_events.specs.declared.event.Event.{Event}
-use Rattle.run_events.specs.declared.supply.Need.TheVariants.{Nothing}
-use Rattle.any_machine.specs.Machine.{CountsSteps, Machine, power_status}
+use Rattle.run_events.specs.declared.supply.Need.{Need}
+use Rattle.run_events.specs.declared.supply.Need.TheVariants.{Load, Nothing}
+use Rattle.run_events.specs.declared.supply.Supplied.{Supplied}
+use Rattle.any_machine.specs.Machine.{CountsSteps, Machine, is_load, power_status}
 use Rattle.any_machine.specs.Replay.{load_fault}
 use Rattle.any_machine.specs.Held.{Held, RunsTo, held_event, held_next, may_step}
-use Rattle.any_machine.specs.Running.{RunSoFar, unfed}
+use Rattle.any_machine.specs.Running.{IsFed, RunSoFar, fed, unfed}
 use Rattle.any_machine.proofs.HeldRuns.{runs_on}
 
 module _ {S : Type 0} (m : Machine S) (number : ℕ) where
@@ -50,3 +52,19 @@ module _ {S : Type 0} (m : Machine S) (done : S → ℕ) (counts : CountsSteps m
       → ((h : List Event) → SeenNow h → SeenNext (h ++ event ∷ [])) → RunSoFar m number first (unfed done lines s') Seen SeenNext
   loop_fast number first Seen SeenNow SeenNext so_far lt nothing runs sees =
       loop_next m number first (unfed done lines s) (unfed done lines s') event Seen SeenNow SeenNext so_far lt (ap (λ need. not (is_some (load_fault need None))) nothing) (unfed_next runs) unfed_event sees
+
+-- a step that loads a device register and was fed
+module _ {S : Type 0} (m : Machine S) (done : S → ℕ) (counts : CountsSteps m done) (lines : ℕ) (supplied : Supplied) (s s' : S) (Seen SeenNow : List Event → Type 0) (was : IsFed m lines supplied s s' Seen SeenNow) where
+  ready : (need : Need) → is_load need ≡ true → not (is_some (load_fault need (Some supplied))) ≡ true
+  ready (Load address width) loads = refl
+  ready Nothing loads = cc
+
+  fed_next : unfed done lines s' ≡ held_next m (fed done lines supplied s)
+  fed_next =
+      ap (unfed done lines) (sym was.state)
+      ∙ ap (λ k. record { state = (m.step s lines (Some supplied)).1; step = k; lines = lines; load = None; power = None }) (counts.stepped s lines (Some supplied))
+      ∙ ap (λ p. record { state = (m.step s lines (Some supplied)).1; step = suc (done s); lines = lines; load = None; power = p }) (sym was.runs)
+
+  pub loop_fed : (number : ℕ) → done s < number → RunSoFar m number (fed done lines supplied s) (unfed done lines s') Seen SeenNow
+  loop_fed number lt =
+      loop_next m number (fed done lines supplied s) (fed done lines supplied s) (unfed done lines s') (held_event m (fed done lines supplied s)) Seen Seen SeenNow (loop_first m number (fed done lines supplied s) Seen) lt (ready (m.needs s lines) was.loads) fed_next refl was.seen

@@ -1,9 +1,9 @@
 //! A hart in code, which a machine of the definitions describes.
 ghost use Rattle.memory_map.specs.declared.TheConstants.{MOST_STEPS};
-ghost use Rattle.std.specs.Prelude.{◌≡◌, ◌*◌, ◌<◌, ◌≤◌, ℕ, IsTrue, is_some};
+ghost use Rattle.std.specs.Prelude.{◌≡◌, ◌*◌, ◌<◌, ◌≤◌, ℕ, false, IsTrue, is_some};
 ghost use Rattle.run_events.specs.Event.{Fits};
 ghost use Rattle.any_machine.specs.Machine.{CountsSteps, Machine, is_load};
-ghost use Rattle.any_machine.specs.Running.{RunSoFar, unfed};
+ghost use Rattle.any_machine.specs.Running.{IsFed, RunSoFar, unfed};
 
 use run_events::{Event, Need, Supplied, Watcher};
 
@@ -48,6 +48,19 @@ pub trait Hart {
             (unfed done lines self.new)
             (W.has_seen seen.old) (W.has_seen seen.new) }
         ensures rises { done self.old ≤ done self.new }
+        ensures ram { ram_size self.new ≡ ram_size self.old }
+        ensures kib { W.ram_kib seen.new ≡ W.ram_kib seen.old }
+        ensures made { W.make seen.new ≡ W.make seen.old };
+
+    /// Does the next step with these lines and with what the device register that it loads supplied, where the hart has a
+    /// short way to do so, and shows it. Where it answers false, nothing was done.
+    fn feed_fast<W: Watcher>(&mut self, lines: u8, supplied: Supplied, seen: &mut W) -> bool
+        requires room { done self.old < MOST_STEPS }
+        requires size { ram_size self.old ≡ 1024 * W.ram_kib seen.old }
+        ensures fed { IsTrue result → IsFed machine lines supplied self.old self.new
+            (W.has_seen seen.old) (W.has_seen seen.new) }
+        ensures same { result ≡ false → self.new ≡ self.old }
+        ensures unseen { result ≡ false → seen.new ≡ seen.old }
         ensures ram { ram_size self.new ≡ ram_size self.old }
         ensures kib { W.ram_kib seen.new ≡ W.ram_kib seen.old }
         ensures made { W.make seen.new ≡ W.make seen.old };

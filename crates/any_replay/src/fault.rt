@@ -26,6 +26,7 @@ fn is_after_power(steps: u32, status: u8, item: &Record) -> bool
 
 // The fault of a record whose steps are not all done, or which does not follow the power store of the last one. What the
 // step to come needs is asked only where that step is missing.
+#[inline(always)]
 fn halted<H: Hart>(standing: &Standing<H>, item: &Record) -> Option<Diverged>
     ensures { result ≡ halt_fault (H.done standing.now.hart) standing.now.power
         (wait_fault H.machine (held_of H.done standing.now)) item.now }
@@ -43,6 +44,8 @@ fn halted<H: Hart>(standing: &Standing<H>, item: &Record) -> Option<Diverged>
 }
 
 // Why the step to come is missing.
+#[cold]
+#[inline(never)]
 fn missing<H: Hart>(standing: &Standing<H>) -> Option<Diverged>
     ensures { result ≡ option_map (fault_at (H.done standing.now.hart))
         (wait_fault H.machine (held_of H.done standing.now)) }
@@ -88,6 +91,7 @@ fn end_fault(
 }
 
 // What is wrong with a record by itself, where all steps below its number are done.
+#[inline(always)]
 fn own_fault<H: Hart>(standing: &Standing<H>, item: &Record) -> Option<Diverged>
     ensures { (start : H) → H.ram_size start ≡ H.ram_size standing.now.hart
         → result ≡ model.own_fault H.machine start item.now standing.now.load standing.now.power }
@@ -103,6 +107,7 @@ fn own_fault<H: Hart>(standing: &Standing<H>, item: &Record) -> Option<Diverged>
 }
 
 /// The fault of a record once the steps below its number are done, as far as they can be.
+#[inline(always)]
 pub fn fault<H: Hart>(standing: &Standing<H>, item: &Record) -> Option<Diverged>
     ensures { (start : H) → H.ram_size start ≡ H.ram_size standing.now.hart
         → result ≡ held_fault H.machine start item.now (held_of H.done standing.now) }

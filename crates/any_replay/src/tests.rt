@@ -91,6 +91,10 @@ impl Hart for Toy {
 
     fn run_fast<W: Watcher>(&mut self, _lines: u8, _number: u32, _seen: &mut W) {}
 
+    fn feed_fast<W: Watcher>(&mut self, _lines: u8, _supplied: Supplied, _seen: &mut W) -> bool {
+        false
+    }
+
     fn dma(&mut self, address: u32, word: u32, mark: u8) -> Event {
         Event::Dma {
             step: self.step,

@@ -9,6 +9,7 @@ use crate::{
 
 /// Whether a device register begins at this byte address. A device is accessed at no other address.
 #[tactic(auto, unfolding(crate::specs::Device::is_device))]
+#[inline(always)]
 pub fn is_device(address: u32) -> bool
     ensures { result ≡ board.is_device address }
 {

@@ -5,3 +5,4 @@ pub mod CpuLaws
 pub mod MidwayLaws
 pub mod PlainLaws
 pub mod IdleLaws
+pub mod FedLaws

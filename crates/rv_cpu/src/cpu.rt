@@ -1,6 +1,6 @@
 //! The hart as its callers see it.
 ghost use Rattle.memory_map.specs.declared.TheConstants.{MOST_STEPS};
-ghost use Rattle.std.specs.Prelude.{◌≡◌, ◌+◌, ◌*◌, ◌%◌, ◌<◌, ◌≤◌, ℕ, false, None, Some, IsTrue, is_some, length, slice_index};
+ghost use Rattle.std.specs.Prelude.{◌≡◌, ◌+◌, ◌*◌, ◌%◌, ◌<◌, ◌≤◌, ℕ, false, None, Some, IfSome, IsTrue, is_some, length, slice_index};
 ghost use Rattle.any_machine.specs.Machine.{is_load};
 ghost use Rattle.run_events.specs.Event.{Fits};
 
@@ -31,7 +31,7 @@ impl Model for Cpu {
 
 impl Cpu {
     ghost use Rattle.hart_model.specs.Fetch.{grain};
-    ghost use Rattle.any_machine.specs.Running.{RunSoFar, unfed};
+    ghost use Rattle.any_machine.specs.Running.{IsFed, RunSoFar, unfed};
     ghost use Rattle.hart_model.specs.Machine.{hart, holds_word};
     ghost use Rattle.hart_model.specs.State.{State, register, reset_state};
     ghost use Rattle.hart_model.specs.Step.{cpu, needs, touch};
@@ -85,6 +85,36 @@ impl Cpu {
         ensures made { W.make seen.new ≡ W.make seen.old }
     {
         self.engine.run_shown(lines, number, seen);
+    }
+
+    /// Does the next step where it loads a device register, with these interrupt lines and with what the register supplied,
+    /// and answers what it shows. Else nothing is done. It is `step` with a shorter way.
+    #[inline(always)]
+    pub fn step_fed(&mut self, lines: u8, supplied: Supplied) -> Option<Event>
+        requires room { self.old.step < MOST_STEPS }
+        ensures loads { is_some result ≡ is_load (needs self.old lines) }
+        ensures step { IfSome result (λ event.
+            cpu self.old lines (Some supplied) ≡ (event, self.new)) }
+        ensures none { is_some result ≡ false → self.new ≡ self.old }
+        ensures size { length self.new.ram ≡ length self.old.ram }
+    {
+        self.engine.step_fed(lines, supplied)
+    }
+
+    /// Does the next step where it loads a device register, as `step_fed` does, and shows it. It answers whether it did.
+    pub fn feed_shown<W: Watcher>(&mut self, lines: u8, supplied: Supplied, seen: &mut W) -> bool
+        requires room { self.old.step < MOST_STEPS }
+        requires size { length self.old.ram ≡ 1024 * W.ram_kib seen.old }
+        ensures loads { result ≡ is_load (needs self.old lines) }
+        ensures fed { IsTrue result → IsFed hart lines supplied self.old self.new
+            (W.has_seen seen.old) (W.has_seen seen.new) }
+        ensures same { result ≡ false → self.new ≡ self.old }
+        ensures unseen { result ≡ false → seen.new ≡ seen.old }
+        ensures ram { length self.new.ram ≡ length self.old.ram }
+        ensures size { W.ram_kib seen.new ≡ W.ram_kib seen.old }
+        ensures made { W.make seen.new ≡ W.make seen.old }
+    {
+        self.engine.feed_shown(lines, supplied, seen)
     }
 
     /// Does the next steps with these interrupt lines as long as they are plain ones, as `run_shown` says, and at most

@@ -41,6 +41,10 @@ impl Hart for Cpu {
         Cpu::run_shown(self, lines, number, seen);
     }
 
+    fn feed_fast<W: Watcher>(&mut self, lines: u8, supplied: Supplied, seen: &mut W) -> bool {
+        Cpu::feed_shown(self, lines, supplied, seen)
+    }
+
     fn dma(&mut self, address: u32, word: u32, mark: u8) -> Event {
         Cpu::dma(self, address, word, mark)
     }

@@ -9,6 +9,7 @@ mod cpu;
 mod done;
 mod engine;
 mod execute;
+mod fed;
 mod hart;
 mod moves;
 mod need;

@@ -14,8 +14,9 @@ use run_events::Need;
 use rv_decode::{Instr, LoadOp, decode};
 
 impl Engine {
-    // What a load has to be given.
-    fn need_of_load(&self, op: LoadOp, address: u32) -> Need
+    /// What a load has to be given.
+    #[inline(always)]
+    pub fn need_of_load(&self, op: LoadOp, address: u32) -> Need
         ensures { result ≡ need_at self.now address (load_width op) }
     {
         let width = alu::load_width(op);

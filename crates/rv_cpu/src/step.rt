@@ -116,9 +116,9 @@ impl Engine {
         self.conclude(word, size, told, done)
     }
 
-    // Does the step of a load.
+    /// Does the step of a load.
     #[inline(always)]
-    fn run_load(
+    pub fn run_load(
         &mut self,
         supplied: Option<Supplied>,
         word: u32,
