@@ -1,6 +1,6 @@
 //! The recorder.
 ghost use Rattle.memory_map.specs.declared.TheConstants.{LEAST_RAM_KIB, MOST_RAM_KIB, MOST_STEPS};
-ghost use Rattle.std.specs.Prelude.{◌≡◌, ◌+◌, ◌%◌, ◌*◌, ◌^◌, ◌<◌, ◌≤◌, ℕ, false, true, List, IfOk, IsTrue, length, map, vec_len};
+ghost use Rattle.std.specs.Prelude.{◌≡◌, ◌+◌, ◌%◌, ◌*◌, ◌^◌, ◌<◌, ◌≤◌, ℕ, false, true, List, IfOk, IsTrue, is_some, length, map, vec_len};
 ghost use Rattle.any_machine.specs.Log.{items};
 ghost use Rattle.any_machine.specs.Machine.{is_load};
 ghost use Rattle.any_machine.specs.Recorder.{end_item};
@@ -9,7 +9,7 @@ ghost use Rattle.board_model.specs.TheBoard.{after_access, after_event};
 ghost use Rattle.hart_model.proofs.DeviceLaws.{AtRegister, IsAtRegister};
 ghost use Rattle.hart_model.specs.Fetch.{grain};
 ghost use Rattle.hart_model.specs.Machine.{holds_word};
-ghost use Rattle.hart_model.specs.Step.{needs, touch};
+ghost use Rattle.hart_model.specs.Step.{cpu as step_of, needs, touch};
 ghost use Rattle.machine_model.specs.Board.{BoardState, IsPlayable};
 ghost use Rattle.machine_model.specs.Image.{IsLoadable};
 ghost use Rattle.machine_model.specs.Script.{Script as Outside};
@@ -248,7 +248,7 @@ impl Machine {
         ensures { IsOneTurn result self.old self.new }
     {
         let step = self.cpu.steps();
-        let event = self.cpu.step(self.lines, supplied);
+        let event = step_given(&mut self.cpu, self.lines, supplied);
         store_outside(&mut self.board, &event, self.cpu.ram());
         self.phase = after_power(&event);
         reach_item(step, &event)
@@ -281,6 +281,24 @@ impl Recorder for Machine {
     }
 }
 
+// Does a step with what it was given, and answers what it shows. A load of a device register has a way of its own, in which
+// the compiler sees that nothing is stored.
+#[inline(always)]
+fn step_given(cpu: &mut Cpu, lines: u8, supplied: Option<Supplied>) -> Event
+    requires room { cpu.old.step < MOST_STEPS }
+    requires given { is_load (needs cpu.old lines) ≡ is_some supplied }
+    ensures step { step_of cpu.old lines supplied ≡ (result, cpu.new) }
+    ensures size { length cpu.new.ram ≡ length cpu.old.ram }
+{
+    let Some(given) = supplied else {
+        return cpu.step(lines, None);
+    };
+    match cpu.step_fed(lines, given) {
+        Some(event) => event,
+        None => unreachable!(),
+    }
+}
+
 // Writes a word of the disk to RAM. The disk has none for another place.
 fn write_word(cpu: &mut Cpu, word: &DmaWord)
     ensures word { IsTrue (holds_word cpu.old word.now.address)
@@ -294,6 +312,7 @@ fn write_word(cpu: &mut Cpu, word: &DmaWord)
 }
 
 // What a step's access does to the devices.
+#[inline(always)]
 fn store_access(board: &mut Board, access: &Access, ram: &Ram)
     requires begun { 1 ≤ steps_begun board.old }
     requires at { AtRegister access.now }
@@ -321,6 +340,7 @@ fn store_access(board: &mut Board, access: &Access, ram: &Ram)
 }
 
 // What a step's event does to them.
+#[inline(always)]
 fn store_outside(board: &mut Board, event: &Event, ram: &Ram)
     requires begun { 1 ≤ steps_begun board.old }
     requires at { IsAtRegister event.now }
