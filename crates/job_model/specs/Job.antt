@@ -1,5 +1,5 @@
 -- A job, its finished run, and what of its output is released.
-use Rattle.std.specs.Prelude.{ℕ, List, [], ◌∷◌, map, min, unwrap_or}
+use Rattle.std.specs.Prelude.{ℕ, List, [], ◌∷◌, min, unwrap_or}
 use Rattle.run_events.specs.declared.event.Event.{Event}
 use Rattle.run_events.specs.declared.finding.Kind.{Kind}
 use Rattle.machine_model.specs.Image.{Image}
