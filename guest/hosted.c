@@ -139,6 +139,13 @@ ssize_t write(int file, const void *from, size_t bytes) {
     return no_file();
 }
 
+/* Nobody sits at the serial line. */
+int isatty(int file) {
+    (void)file;
+    errno = ENOTTY;
+    return 0;
+}
+
 /* A signal that nobody takes, as that of abort, ends the run. */
 pid_t getpid(void) { return 1; }
 
