@@ -1,19 +1,16 @@
 -- The words of slti x0, x0, k: they are plain instructions that write x0 alone.
-use Rattle.std.proofs.Common.{◌≡◌, ◌∙◌, ℕ, ◌+◌, ◌%◌, ◌^◌, true, Option, None, Some, length, refl, sym, ap, arith}
+use Rattle.std.proofs.Common.{◌≡◌, ◌∙◌, ℕ, ◌+◌, ◌%◌, ◌^◌, true, Some, length, refl, ap, arith}
 use Rattle.memory_map.specs.Ram.{in_ram}
 use Rattle.run_events.specs.Announcement.{is_idle_compare}
-use Rattle.run_events.specs.declared.event.Event.{Event}
 use Rattle.rv_decode.specs.Fields.{opcode_of, rd_of, funct3_of, rs1_of, immediate_i}
 use Rattle.rv_decode.specs.Listing.{instruction}
-use Rattle.rv_decode.specs.declared.instruction.Instr.{Instr}
 use Rattle.rv_decode.specs.declared.instruction.Instr.TheVariants.{OpImm}
 use Rattle.rv_decode.specs.declared.operations.ImmOp.TheVariants.{Slti}
 use Rattle.rv_decode.proofs.ListingLaws.{immediate_words}
 use Rattle.rv_memory.specs.Ram.{loaded}
-use Rattle.hart_model.specs.State.{State, told_by}
+use Rattle.hart_model.specs.State.{State}
 use Rattle.hart_model.specs.Step.{outcome}
-use Rattle.rv_cpu.specs.Midway.{executed_plainly}
-use Rattle.rv_cpu.specs.Told.{idle_told, next_told, told_decoded, told_midway}
+use Rattle.rv_cpu.specs.Told.{idle_told, next_told, told_decoded}
 use Rattle.rv_cpu.proofs.ToldLaws.{told_word}
 
 idle_reads : (word : ℕ) → word % 2 ^ 20 ≡ 8211 → instruction word ≡ Some (OpImm Slti 0 0 (immediate_i word))

@@ -1,5 +1,5 @@
 -- The event is that of the step.
-use Rattle.std.proofs.Common.{◌≡◌, ◌∙◌, ◌++◌, ◌∷◌, [], true, Some, sym, ap, subst}
+use Rattle.std.proofs.Common.{◌≡◌, ◌++◌, ◌∷◌, [], true, Some, sym, ap, subst}
 use Rattle.memory_map.specs.declared.TheConstants.{POWER}
 use Rattle.run_events.specs.declared.event.Event.{Event}
 use Rattle.any_machine.specs.Machine.{is_load}

@@ -1,7 +1,6 @@
 -- What is told is told of the step.
 use Rattle.std.proofs.Common.{◌≡◌, ◌∙◌, ◌+◌, ◌++◌, ◌∷◌, [], true, length, Option, Some, is_some, ap, sym, subst, arith}
 use Rattle.memory_map.specs.Ram.{in_ram}
-use Rattle.run_events.specs.Announcement.{is_idle_compare}
 use Rattle.run_events.specs.declared.access.Told.{Told}
 use Rattle.run_events.specs.declared.event.Event.{Event}
 use Rattle.rv_decode.specs.Listing.{instruction}
