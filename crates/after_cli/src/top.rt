@@ -1,4 +1,5 @@
 //! The top call, and what it answers.
+ghost use Rattle.memory_map.specs.declared.TheConstants.{MOST_DISK_BYTES};
 ghost use Rattle.std.specs.Prelude.{◌≡◌, ◌+◌, ◌*◌, ◌≤◌, ◌↔◌, List, ℕ, Some, None, IfOk, MatchResult, length, map, string_bytes, unwrap_or};
 ghost use Rattle.after_edge.specs.Fault.{Rose};
 ghost use Rattle.after_edge.specs.Files.{Contents};
@@ -10,7 +11,6 @@ ghost use Rattle.refusals.specs.Lines.{output_failed_line, refusal_line};
 ghost use Rattle.refusals.specs.Status.{status_of};
 ghost use Rattle.format_model.specs.ImageFile.{ImageFits};
 ghost use Rattle.machine_model.specs.Board.{AreMarked, IsPlayable};
-ghost use Rattle.run_inputs.specs.Given.{disk_max};
 ghost use Rattle.run_inputs.specs.Read.{given_by};
 ghost use Rattle.after_cli.specs.Asked.{AreNoJob, AskForNoRun, AsksForMore, IsAsked, IsNoRun, job_for};
 ghost use Rattle.after_cli.specs.JobEnds.{JobEnds};
@@ -68,7 +68,7 @@ fn run_asked<O: Sink>(
     requires fits { ImageFits (1024 * run.now.ram_kib) inputs.image }
     requires playable { IsPlayable inputs.script }
     requires marked { AreMarked inputs.script.entries }
-    requires disk { length inputs.disk.items ≤ disk_max }
+    requires disk { length inputs.disk.items ≤ MOST_DISK_BYTES }
     ensures { JobEnds O.told out.old out.new (job_for (run_said run.now) (given_by inputs))
         run.now.turns result }
 {

@@ -13,7 +13,7 @@ use Rattle.run_events.specs.declared.record.Record.TheVariants.{Reach, End}
 use Rattle.run_events.specs.Event.{step_of}
 use Rattle.any_machine.specs.Machine.{Turn, serial_byte}
 use Rattle.any_machine.specs.Run.{Finished, events_in, events_of}
-use Rattle.any_machine.specs.Log.{plain_item, word_record, lines_records, load_records, reach_records, reach_items, input_records, turn_records, turn_items, turns_log, turns_items, log, items, byte_of, bytes_of, output, SentByte, sent_at}
+use Rattle.any_machine.specs.Log.{plain_item, word_record, lines_records, load_records, reach_records, reach_items, input_records, turn_records, turn_items, turns_log, turns_items, log, items, byte_of, bytes_of, output, SentByte, sent_at, tells_reach}
 use Rattle.any_machine.proofs.NumberLaws.{IsWordAt, TurnStands, TurnsStand}
 
 -- the records of plain items, which let no byte go
@@ -27,7 +27,7 @@ bytes_of_plain (item ∷ records) = bytes_of_plain records
 
 reach_record : (n : ℕ) (event : Event) → map (λ item. item.item) (reach_items n event) ≡ reach_records n event
 reach_record n event =
-    elim (is_some (serial_byte event) || suc n % 256 == 0) as (λ b. map (λ (item : Item). item.item) (cond b (record { item = Reach (suc n); byte = serial_byte event } ∷ []) []) ≡ cond b (Reach (suc n) ∷ []) []) [
+    elim (tells_reach n event) as (λ b. map (λ (item : Item). item.item) (cond b (record { item = Reach (suc n); byte = serial_byte event } ∷ []) []) ≡ cond b (Reach (suc n) ∷ []) []) [
       | true ↦ refl
       | false ↦ refl
     ]

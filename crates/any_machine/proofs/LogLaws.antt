@@ -16,7 +16,7 @@ use Rattle.run_events.specs.Record.{number, rank, is_dma, is_end, IsNumber, IsMa
 use Rattle.run_events.proofs.RecordLaws.{admitted_rises}
 use Rattle.any_machine.specs.Machine.{Machine, Input, Turn, IsInput, IsMarked, serial_byte, power_status, touched, after}
 use Rattle.any_machine.specs.Run.{Finished, EndsOrGoes, IsRun, Runs}
-use Rattle.any_machine.specs.Log.{word_record, lines_records, load_records, reach_records, turn_records, turns_log, log}
+use Rattle.any_machine.specs.Log.{word_record, lines_records, load_records, reach_records, turn_records, turns_log, log, tells_reach}
 use Rattle.any_machine.specs.Tape.{tape_of, words_at}
 use Rattle.any_machine.specs.Replay.{outcome, state_at, last_power}
 use Rattle.any_machine.specs.Held.{Held}
@@ -53,7 +53,7 @@ module _ {S : Type 0} (m : Machine S) (start : S) where
       all_append IsRecord (map (word_record n) turn.input.words) (lines_records n held turn.input.lines ++ (load_records n turn.input.supplied ++ reach_records n turn.event)) (word_records n turn.input.words at is.words_marked)
       (all_append IsRecord (lines_records n held turn.input.lines) (load_records n turn.input.supplied ++ reach_records n turn.event) (line_records n turn.input.lines (turn.input.lines == held) at is.lines_fit)
       (all_append IsRecord (load_records n turn.input.supplied) (reach_records n turn.event) (value_records n turn.input.supplied at is.supplied_marked)
-      (mark_records n (is_some (serial_byte turn.event) || suc n % 256 == 0) last)))
+      (mark_records n (tells_reach n turn.event) last)))
 
   turns_are_records : (s : S) (turns : List Turn) (cause : EndCause) (n held : ℕ) → IsRun m start s turns cause → IsNumber (n + length turns) → AreRecords (turns_log n held turns)
   turns_are_records s [] cause n held runs last = tt

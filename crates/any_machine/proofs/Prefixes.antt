@@ -18,7 +18,7 @@ use Rattle.run_events.specs.declared.supply.Supplied.{Supplied}
 use Rattle.run_events.specs.Record.{dmas_at, reach_back}
 use Rattle.any_machine.specs.Machine.{Machine, Input, Turn, serial_byte, power_status}
 use Rattle.any_machine.specs.Run.{Finished, IsRun, Runs}
-use Rattle.any_machine.specs.Log.{word_record, lines_records, load_records, reach_records, turns_log, log}
+use Rattle.any_machine.specs.Log.{word_record, lines_records, load_records, reach_records, turns_log, log, tells_reach}
 use Rattle.any_machine.specs.Tape.{tape_of, words_at}
 use Rattle.any_machine.specs.Replay.{outcome, is_after_power, power_stop, step_stop, stop_at, first_stop, end_agrees, end_fault, last_power, power_at, fault_at}
 use Rattle.any_machine.proofs.LookUpLaws.{joined_with, joined_nothing, tape_more}
@@ -260,7 +260,7 @@ module _ {S : Type 0} (m : Machine S) (start : S) (turns : List Turn) (cause : E
 
       reach_go : (before tail : List Record) → IsInside n turn.input 4 before → ((before' : List Record) → IsInside (suc n) (held_on turn.input.lines) 1 before' → EachPrefix IsRunPrefix before' tail)
           → EachPrefix IsRunPrefix before (reach_records n turn.event ++ tail)
-      reach_go before tail is again = by (is_some (serial_byte turn.event) || suc n % 256 == 0)
+      reach_go before tail is again = by (tells_reach n turn.event)
         where
           by : (b : Bool) → EachPrefix IsRunPrefix before (cond b (Reach (suc n) ∷ []) [] ++ tail)
           by true =

@@ -1,6 +1,6 @@
 -- The log of a run, its items and its output, read off the finished run.
 use Rattle.std.proofs.Common.{suc}
-use Rattle.std.specs.Prelude.{ℕ, ◌-◌, ◌%◌, ◌||◌, ◌==◌, List, [], ◌∷◌, ◌++◌, map, Option, None, Some, is_some, filter, nat_lt, if◌then◌else◌}
+use Rattle.std.specs.Prelude.{ℕ, ◌-◌, ◌%◌, ◌||◌, ◌==◌, Bool, List, [], ◌∷◌, ◌++◌, map, Option, None, Some, is_some, filter, nat_lt, if◌then◌else◌}
 use Rattle.std.specs.Option.{option_map}
 use Rattle.std.specs.List.{filter_map}
 use Rattle.run_events.specs.declared.event.Event.{Event}
@@ -26,8 +26,11 @@ abbrev pub load_records : ℕ → Option Supplied → List Record
 load_records n None = []
 load_records n (Some supplied) = Load n supplied.value supplied.mark ∷ []
 
+abbrev pub tells_reach : ℕ → Event → Bool
+tells_reach n event = is_some (serial_byte event) || suc n % 256 == 0
+
 abbrev pub reach_records : ℕ → Event → List Record
-reach_records n event = if is_some (serial_byte event) || suc n % 256 == 0 then Reach (suc n) ∷ [] else []
+reach_records n event = if tells_reach n event then Reach (suc n) ∷ [] else []
 
 abbrev pub turn_records : ℕ → ℕ → Turn → List Record
 turn_records n held turn =
@@ -47,7 +50,7 @@ abbrev pub plain_item : Record → Item
 plain_item item = record { item = item; byte = None }
 
 abbrev pub reach_items : ℕ → Event → List Item
-reach_items n event = if is_some (serial_byte event) || suc n % 256 == 0 then record { item = Reach (suc n); byte = serial_byte event } ∷ [] else []
+reach_items n event = if tells_reach n event then record { item = Reach (suc n); byte = serial_byte event } ∷ [] else []
 
 abbrev pub input_records : ℕ → ℕ → Turn → List Record
 input_records n held turn = map (word_record n) turn.input.words ++ (lines_records n held turn.input.lines ++ load_records n turn.input.supplied)

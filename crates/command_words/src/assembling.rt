@@ -19,6 +19,11 @@ use crate::value::{
 use run_events::Kind;
 use run_settings::{Kinds, Turns};
 
+// The size of RAM in KiB, the most steps and the places of the log where no word says them.
+const DEFAULT_RAM_KIB: u32 = 1024;
+const DEFAULT_STEPS: u32 = 10_000_000;
+const DEFAULT_LOG: u32 = 1024;
+
 // All analyses.
 fn all_kinds() -> Kinds
     ensures { result ≡ kinds }
@@ -84,8 +89,8 @@ fn ram(draft: &Draft<'_>) -> u32
     ensures { result ≡ ram (held draft.now) }
 {
     match draft.value(Setting::Ram) {
-        Some(given) => ram_in(given.text).unwrap_or(1024),
-        None => 1024,
+        Some(given) => ram_in(given.text).unwrap_or(DEFAULT_RAM_KIB),
+        None => DEFAULT_RAM_KIB,
     }
 }
 
@@ -93,8 +98,8 @@ fn steps(draft: &Draft<'_>) -> u32
     ensures { result ≡ steps (held draft.now) }
 {
     match draft.value(Setting::Steps) {
-        Some(given) => steps_in(given.text).unwrap_or(10_000_000),
-        None => 10_000_000,
+        Some(given) => steps_in(given.text).unwrap_or(DEFAULT_STEPS),
+        None => DEFAULT_STEPS,
     }
 }
 
@@ -102,8 +107,8 @@ fn log(draft: &Draft<'_>) -> u32
     ensures { result ≡ log (held draft.now) }
 {
     match draft.value(Setting::Log) {
-        Some(given) => log_in(given.text).unwrap_or(1024),
-        None => 1024,
+        Some(given) => log_in(given.text).unwrap_or(DEFAULT_LOG),
+        None => DEFAULT_LOG,
     }
 }
 

@@ -6,7 +6,7 @@ use crate::number::number_in;
 use crate::table::Setting;
 use memory_map::{LEAST_RAM_KIB, MOST_RAM_KIB, MOST_STEPS};
 use run_events::Kind;
-use run_settings::{Kinds, Letter, Turns};
+use run_settings::{Kinds, Letter, MOST_TURNS, Turns};
 
 /// The fewest places that a log has.
 pub const LEAST_LOG: u32 = 16;
@@ -16,6 +16,9 @@ pub const MOST_LOG: u32 = 65_536;
 
 /// The most threads.
 pub const MOST_THREADS: u32 = 8;
+
+/// The most parts of a guest that is made.
+pub const MOST_PARTS: u32 = 100_000;
 
 // Whether a word may be a name or a value: it is not empty, and does not begin with a dash.
 pub(crate) fn is_plain(word: &str) -> bool
@@ -94,7 +97,7 @@ pub(crate) fn seed_in(text: &str) -> Option<u32>
 pub(crate) fn size_in(text: &str) -> Option<u32>
     ensures { result ≡ size_in text.now }
 {
-    number_in(text, 1, 100_000)
+    number_in(text, 1, MOST_PARTS)
 }
 
 #[tactic(auto, unfolding(crate::specs::Values::kind_named, analysis_model::specs::Report::kind_name))]
@@ -188,11 +191,11 @@ fn letter_in(byte: u8) -> Option<Letter>
     }
 }
 
-// 1 to 64 letters.
+// 1 to `MOST_TURNS` letters.
 fn turns_of(text: &[u8]) -> Option<Turns>
     ensures { result ≡ turns_in text.now }
 {
-    if text.is_empty() || text.len() > 64 {
+    if text.is_empty() || text.len() > MOST_TURNS {
         return None;
     }
     let mut turns = Turns::new();

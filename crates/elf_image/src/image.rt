@@ -1,5 +1,5 @@
 //! Images, how a flat file gives one, and how one is loaded.
-ghost use Rattle.memory_map.specs.declared.TheConstants.{LEAST_RAM_KIB, MOST_RAM_KIB};
+ghost use Rattle.memory_map.specs.declared.TheConstants.{LEAST_RAM_KIB, MOST_RAM_BYTES, MOST_RAM_KIB};
 ghost use Rattle.std.specs.Prelude.{◌≡◌, ◌+◌, ◌*◌, ◌<◌, ◌≤◌, ◌^◌, ℕ, List, length, IfOk};
 ghost use Rattle.machine_model.specs.Image.{flat_image, ram_at_start, ram_with, IsLoadable};
 
@@ -105,7 +105,7 @@ impl Image {
 /// The image of a file without a header: one executable segment at the start of RAM, where the guest starts too.
 /// The file has at most as many bytes as the largest RAM.
 pub fn read_flat(alloc: Global, file: Vec<u8>) -> Result<Image, NoMemory>
-    requires { length file.items ≤ 16777216 }
+    requires { length file.items ≤ MOST_RAM_BYTES }
     ensures { IfOk result (λ image. image ≡ flat_image file.items) }
 {
     let size = file.len() as u32;

@@ -1,5 +1,5 @@
 -- The job that a run is asked for, and what the run is to come to.
-use Rattle.memory_map.specs.declared.TheConstants.{LEAST_RAM_KIB, MOST_RAM_KIB, MOST_STEPS}
+use Rattle.memory_map.specs.declared.TheConstants.{LEAST_RAM_KIB, MOST_DISK_BYTES, MOST_RAM_KIB, MOST_STEPS}
 use Rattle.std.specs.Prelude.{◌≡◌, ℕ, ◌*◌, ◌%◌, ◌^◌, ◌≤◌, IsTrue, List, length, map, slice_get, Some}
 use Rattle.std.specs.List.{AllByRecursion, AllZip, Contains}
 use Rattle.run_events.specs.declared.finding.Kind.{Kind}
@@ -40,7 +40,7 @@ pub record IsRunnable (job : Job) : Type 0 where
   pub aligned : job.image.entry % grain ≡ 0
   pub playable : IsPlayable job.script
   pub marked : AreMarked job.script.entries
-  pub disk : length job.disk ≤ 2 ^ 24
+  pub disk : length job.disk ≤ MOST_DISK_BYTES
 
 -- these are the places of some kinds among others
 abbrev pub ArePlaces : List Kind → List Kind → List ℕ → Type 0

@@ -16,12 +16,16 @@ use decimal_text::is_number;
 use memory_map::MOST_STEPS;
 use std::alloc::Global;
 
-// The largest number of a sector of the disk.
-const MOST_SECTORS: u32 = 32_767;
+// The last sector of the largest disk.
+const LAST_SECTOR: u32 = 32_767;
 
-// The most entries and spans of sectors of a script.
+// The longest latency of the disk, in steps.
+const MOST_LATENCY: u32 = 1_000_000;
+
+// The most entries of a script.
 const MOST_ENTRIES: usize = 65_536;
 
+// The most spans of sectors of a script.
 const MOST_SPANS: usize = 256;
 
 // A line: one that says nothing, or what it says.
@@ -78,7 +82,7 @@ fn tick_at(text: &[u8]) -> Result<What, Broken>
 fn latency_at(text: &[u8]) -> Result<What, Broken>
     ensures { Gives arrives result (latency_at text.now) }
 {
-    let steps = number_at(text, 1, 1_000_000)?;
+    let steps = number_at(text, 1, MOST_LATENCY)?;
     Ok(What::Latency { steps })
 }
 
@@ -125,8 +129,8 @@ pub(crate) fn clock_at(may_stand: bool, text: &[u8]) -> Result<Line, Broken>
 fn span_in(left: &[u8], right: &[u8]) -> Result<Span, Broken>
     ensures { Gives (λ s. s) result (span_in left.now right.now) }
 {
-    let first = number_in(left, 0, MOST_SECTORS)?;
-    let last = number_in(right, first, MOST_SECTORS)?;
+    let first = number_in(left, 0, LAST_SECTOR)?;
+    let last = number_in(right, first, LAST_SECTOR)?;
     Ok(Span { first, last })
 }
 

@@ -26,6 +26,12 @@ pub const LEAST_RAM_KIB: u32 = 64;
 /// The largest size that RAM may have, in KiB.
 pub const MOST_RAM_KIB: u32 = 16_384;
 
+/// The most bytes that RAM may have.
+pub const MOST_RAM_BYTES: usize = 16_777_216;
+
+/// The most bytes that a disk may have.
+pub const MOST_DISK_BYTES: usize = 16_777_216;
+
 /// The address of RAM's first byte.
 pub const RAM_START: u32 = 0x8000_0000;
 

@@ -4,11 +4,12 @@ use Rattle.std.proofs.Common.{◌≡◌, ℕ, ◌+◌, ◌-◌, ◌<◌, ◌≤�
 use Rattle.std.specs.Prelude.{IfSome}
 use Rattle.std.proofs.lemmas.List.{length-drop, length-take-le, length_push}
 use Rattle.circular_buffer.specs.Buffer.{keep_last}
+use Rattle.output_gate.specs.declared.TheConstants.{ROOM}
 use Rattle.output_gate.specs.Gate.{GateState, IsGate, Climbs, passed_after, count_below, is_withheld, first_withheld, with_release, with_withheld}
 use Rattle.output_gate.proofs.GateLaws.{Climbs-wider, Climbs-push, Climbs-take, Climbs-drop, Climbs-min, Climbs-below, count_below-within}
 
 -- where a ring is not full, fewer items than it may hold are in it
-pub few_wait : (count room : ℕ) → room ≡ 4096 → count ≤ 4096 → false ≡ nat_eq count room → count < 4096
+pub few_wait : (count room : ℕ) → room ≡ ROOM → count ≤ ROOM → false ≡ nat_eq count room → count < ROOM
 few_wait count room is most other = grind arith
 
 -- a ring with room keeps all
@@ -36,7 +37,7 @@ take-below (Some f) steps low high step was climbs l =
     Climbs-min (take (count_below step steps) steps) low f step (Climbs-take (count_below step steps) steps low f was) (Climbs-below steps low high step climbs l)
 
 -- one byte more waits
-pub wait-IsGate : (g : GateState) (step byte : ℕ) → IsGate g → g.failed ≡ false → length g.steps < 4096 → g.next ≤ step → step < MOST_STEPS → is_withheld g.from step ≡ false
+pub wait-IsGate : (g : GateState) (step byte : ℕ) → IsGate g → g.failed ≡ false → length g.steps < ROOM → g.next ≤ step → step < MOST_STEPS → is_withheld g.from step ≡ false
     → IsGate (record g { steps = g.steps ++ step ∷ []; bytes = g.bytes ++ byte ∷ []; issued = g.issued + 1; next = step + 1 })
 wait-IsGate g step byte was sound room rises within other =
     let steps : length (g.steps ++ step ∷ []) ≡ length g.steps + 1 = length_push g.steps step in

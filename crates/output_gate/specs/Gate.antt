@@ -1,5 +1,6 @@
 -- What a gate holds, and what each call makes of it.
 use Rattle.memory_map.specs.declared.TheConstants.{MOST_STEPS}
+use Rattle.output_gate.specs.declared.TheConstants.{ROOM}
 use Rattle.std.specs.Prelude.{◌≡◌, ℕ, ◌+◌, ◌-◌, ◌≤◌, ◌==◌, Bool, true, false, nat_le, nat_lt, if◌then◌else◌, List, [], ◌∷◌, ◌++◌, length, take, drop, filter, min, Option, Some, None, IfSome}
 
 -- the steps and the bytes that wait, first in first; how many bytes were issued, released and withheld; one more than the
@@ -23,7 +24,7 @@ Climbs low (step ∷ steps) high = (low ≤ step) × Climbs (step + 1) steps hig
 
 -- what is true of every gate; the order of what waits is told while no put has failed
 pub record IsGate (g : GateState) : Type 0 where
-  pub few : length g.steps ≤ 4096
+  pub few : length g.steps ≤ ROOM
   pub paired : length g.bytes ≡ length g.steps
   pub counted : g.issued ≡ g.released + length g.steps + g.withheld
   pub rising : g.issued ≤ g.next
@@ -37,7 +38,7 @@ empty_gate = record { steps = []; bytes = []; issued = 0; released = 0; withheld
 
 -- no byte more may wait
 abbrev pub is_full : GateState → Bool
-is_full g = length g.steps == 4096
+is_full g = length g.steps == ROOM
 
 -- the byte of a step is withheld
 abbrev pub is_withheld : Option ℕ → ℕ → Bool

@@ -3,6 +3,7 @@ ghost use Rattle.memory_map.specs.declared.TheConstants.{MOST_STEPS};
 ghost use Rattle.std.specs.Prelude.{◌≡◌, ◌+◌, ◌<◌, ◌≤◌, false, length, take, drop, is_err, IfOk, OnOk, OnErr};
 ghost use Rattle.after_edge.specs.Sink.{Writes, WritesPart};
 ghost use Rattle.circular_buffer.specs.Buffer.{buffer};
+ghost use Rattle.output_gate.specs.declared.TheConstants.{ROOM};
 ghost use Rattle.output_gate.specs.Gate.{Climbs, passed_after, count_below, empty_gate, is_full, is_withheld, first_withheld, with_failure, with_issue, with_release, with_withheld};
 
 use after_edge::{Failed, Sink};
@@ -39,6 +40,7 @@ pub struct OutputGate {
 impl CrossesThreads for OutputGate {}
 
 impl Model for OutputGate {
+    ghost use Rattle.output_gate.specs.declared.TheConstants.{ROOM};
     ghost use Rattle.output_gate.specs.Gate.{GateState, IsGate};
     ghost use Rattle.std.specs.Prelude.{◌≡◌};
 
@@ -56,8 +58,8 @@ impl Model for OutputGate {
       failed = g.failed;
     } };
 
-    ghost invariant = { λ g. (g.steps.capacity ≡ 4096)
-        × (g.bytes.capacity ≡ 4096)
+    ghost invariant = { λ g. (g.steps.capacity ≡ ROOM)
+        × (g.bytes.capacity ≡ ROOM)
         × IsGate (record {
           steps = g.steps.items;
           bytes = g.bytes.items;
@@ -180,7 +182,7 @@ impl OutputGate {
     /// How many bytes wait. After a put that failed those of its piece are among them.
     pub fn waiting(&self) -> u32
         ensures waiting { result ≡ length self.now.steps }
-        ensures few { result ≤ 4096 }
+        ensures few { result ≤ ROOM }
     {
         self.steps.len() as u32
     }

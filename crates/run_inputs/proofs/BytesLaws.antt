@@ -1,4 +1,5 @@
 -- What the reads of a run's files say together.
+use Rattle.memory_map.specs.declared.TheConstants.{MOST_DISK_BYTES}
 use Rattle.std.proofs.Common.{◌≡◌, ℕ, ◌<◌, ◌≤◌, inl, inr, List, length, Option, Some, None, Result, Ok, Err, refl, sym, ap, subst, ◌∙◌}
 use Rattle.std.specs.Prelude.{IsSome, is_some}
 use Rattle.std.proofs.lemmas.Bool.{cases_lt, lt-ltb, le-ltb}
@@ -9,7 +10,7 @@ use Rattle.run_inputs.specs.declared.fault.InputFault.{InputFault}
 use Rattle.run_inputs.specs.declared.fault.InputFault.TheVariants as fault
 use Rattle.run_inputs.specs.Faults.{GivesFault, HasCause}
 use Rattle.run_inputs.specs.Files.{Names, IsFound, IsDiskFound, Comes}
-use Rattle.run_inputs.specs.Given.{Bytes, Found, Refusal, Absent, ImageTooLong, ScriptTooLong, DiskTooLong, image_max, script_max, disk_max, file_in, bytes_in}
+use Rattle.run_inputs.specs.Given.{Bytes, Found, Refusal, Absent, ImageTooLong, ScriptTooLong, DiskTooLong, image_max, script_max, file_in, bytes_in}
 use Rattle.run_inputs.specs.Read.{IsLong, GivesNoBytes, IsFileRefused, IsDiskRefused}
 use Rattle.run_inputs.proofs.FoundLaws.{some_found, some_disk}
 
@@ -108,30 +109,30 @@ module _ (content : Option Contents) (names : Names) where
         },
       )
 
-      disk_long : (name : List ℕ) → names.disk ≡ Some name → IsLong content name disk_max → Comes bytes_in content names (Err DiskTooLong)
+      disk_long : (name : List ℕ) → names.disk ≡ Some name → IsLong content name MOST_DISK_BYTES → Comes bytes_in content names (Err DiskTooLong)
       unfolding bytes_in
       disk_long name is longer = record {
         found = record { image = Some image; script = Some script; disk = Some longer.bytes };
         are = record { image = image_read.found; script = script_read.found; disk = subst (λ (n : Option (List ℕ)). IsDiskFound content n (Some longer.bytes)) (sym is) longer.found };
-        gives = rw (whole image_max ImageTooLong image image_read.within, whole script_max ScriptTooLong script script_read.within, long disk_max DiskTooLong longer.bytes longer.longer) refl;
+        gives = rw (whole image_max ImageTooLong image image_read.within, whole script_max ScriptTooLong script script_read.within, long MOST_DISK_BYTES DiskTooLong longer.bytes longer.longer) refl;
       }
 
-      disk_gives : (name : List ℕ) (told : InputFault) → names.disk ≡ Some name → GivesNoBytes content name disk_max fault.DiskTooLong told → GivesFault bytes_in content names told
+      disk_gives : (name : List ℕ) (told : InputFault) → names.disk ≡ Some name → GivesNoBytes content name MOST_DISK_BYTES fault.DiskTooLong told → GivesFault bytes_in content names told
       disk_gives name told is (inl (same, tells, none)) = subst (GivesFault bytes_in content names) (sym same) (disk_absent name is (tells, none))
       disk_gives name told is (inr (inl (same, longer))) = subst (GivesFault bytes_in content names) (sym same) (disk_long name is longer)
       disk_gives name told is (inr (inr (same, there))) = subst (GivesFault bytes_in content names) (sym same) (was_there content names.image image image_read.found)
 
       pub disk_refused : (disk : Option (List ℕ)) (before between now : ℕ) (told : InputFault) → names.disk ≡ disk → between ≡ before → IsDiskRefused content disk between now told → HasCause bytes_in content names before now told
       disk_refused None before between now told is still refused = absurd refused
-      disk_refused (Some name) before between now told is still refused = refused_by content names name disk_max fault.DiskTooLong before between now told still (disk_gives name told is) refused
+      disk_refused (Some name) before between now told is still refused = refused_by content names name MOST_DISK_BYTES fault.DiskTooLong before between now told still (disk_gives name told is) refused
 
       -- all were read
-      pub bytes_come : (disk : List ℕ) → IsDiskFound content names.disk (Some disk) → length disk ≤ disk_max → Comes bytes_in content names (Ok (record { image = image; script = script; disk = disk }))
+      pub bytes_come : (disk : List ℕ) → IsDiskFound content names.disk (Some disk) → length disk ≤ MOST_DISK_BYTES → Comes bytes_in content names (Ok (record { image = image; script = script; disk = disk }))
       unfolding bytes_in
       bytes_come disk found few = record {
         found = record { image = Some image; script = Some script; disk = Some disk };
         are = record { image = image_read.found; script = script_read.found; disk = found };
-        gives = rw (whole image_max ImageTooLong image image_read.within, whole script_max ScriptTooLong script script_read.within, whole disk_max DiskTooLong disk few) refl;
+        gives = rw (whole image_max ImageTooLong image image_read.within, whole script_max ScriptTooLong script script_read.within, whole MOST_DISK_BYTES DiskTooLong disk few) refl;
       }
 
 -- of files that were read the image is there
@@ -160,7 +161,7 @@ module _ {Y : Type 0} (max : ℕ) (too_long : Refusal) (f : List ℕ → Result 
 pub record AreShort (bytes : Bytes) : Type 0 where
   pub image : length bytes.image ≤ image_max
   pub script : length bytes.script ≤ script_max
-  pub disk : length bytes.disk ≤ disk_max
+  pub disk : length bytes.disk ≤ MOST_DISK_BYTES
 
 pub are_short : (content : Option Contents) (names : Names) (bytes : Bytes) → Comes bytes_in content names (Ok bytes) → AreShort bytes
 unfolding bytes_in
@@ -168,7 +169,7 @@ are_short content names bytes comes =
     let found = comes.found in
     let image = read_short image_max ImageTooLong _ bytes found.image comes.gives in
     let script = read_short script_max ScriptTooLong _ bytes found.script image.2 in
-    let disk = read_short disk_max DiskTooLong _ bytes found.disk script.2 in
+    let disk = read_short MOST_DISK_BYTES DiskTooLong _ bytes found.disk script.2 in
     let same : bytes ≡ record { image = image.0; script = script.0; disk = disk.0 } = let e = disk.2 in cc in
     let short : AreShort (record { image = image.0; script = script.0; disk = disk.0 }) = record { image = image.1; script = script.1; disk = disk.1 } in
     subst AreShort (sym same) short

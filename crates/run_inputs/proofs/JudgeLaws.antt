@@ -1,4 +1,5 @@
 -- What is judged, and what the judge's faults say of the whole.
+use Rattle.memory_map.specs.declared.TheConstants.{MOST_DISK_BYTES}
 use Rattle.std.proofs.Common.{◌≡◌, ℕ, ◌≤◌, List, length, Option, Some, None, is_some, Result, Ok, Err, IfOk, IfErr, inl, inr, refl, ap, arith, ◌∙◌}
 use Rattle.std.specs.Prelude.{IsSome}
 use Rattle.after_edge.specs.Files.{Contents, IsThere}
@@ -16,7 +17,7 @@ use Rattle.run_inputs.specs.declared.fault.InputFault.{InputFault}
 use Rattle.run_inputs.specs.declared.fault.InputFault.TheVariants as fault
 use Rattle.run_inputs.specs.Faults.{GivesFault, HasCause, of_image, of_script}
 use Rattle.run_inputs.specs.Files.{Names, Comes}
-use Rattle.run_inputs.specs.Given.{Bytes, Found, Given, Refusal, Absent, BadImage, BadScript, bytes_in, disk_max, given_in, inputs_in}
+use Rattle.run_inputs.specs.Given.{Bytes, Found, Given, Refusal, Absent, BadImage, BadScript, bytes_in, given_in, inputs_in}
 use Rattle.run_inputs.specs.Read.{IsJudgedAs, given_by}
 use Rattle.run_inputs.proofs.BytesLaws.{AreShort, image_there}
 
@@ -102,6 +103,6 @@ pub given_there : (ram_kib : ℕ) (content : Option Contents) (names : Names) (g
 given_there ram_kib content names given comes files told = ap is_some (comes.are.image files told) ∙ given_some ram_kib comes.found given comes.gives
 
 -- the disk is the one that was read
-pub short_disk : (r : Result Inputs InputFault) (bytes : Bytes) → IfOk r (λ inputs. inputs.disk.items ≡ bytes.disk) → AreShort bytes → IfOk r (λ inputs. length inputs.disk.items ≤ disk_max)
+pub short_disk : (r : Result Inputs InputFault) (bytes : Bytes) → IfOk r (λ inputs. inputs.disk.items ≡ bytes.disk) → AreShort bytes → IfOk r (λ inputs. length inputs.disk.items ≤ MOST_DISK_BYTES)
 short_disk (Ok inputs) bytes is short = omega (arith, ap length is, short.disk)
 short_disk (Err e) bytes is short = tt

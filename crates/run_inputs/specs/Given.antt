@@ -1,4 +1,5 @@
 -- What the files of a run come to: the guest, what its outside does and the bytes of its disk; or why not.
+use Rattle.memory_map.specs.declared.TheConstants.{MOST_DISK_BYTES}
 use Rattle.std.specs.Prelude.{ℕ, nat_lt, if◌then◌else◌, List, length, Option, Some, None, Result, Ok, Err}
 use Rattle.machine_model.specs.Image.{Image}
 use Rattle.machine_model.specs.Script.{Script}
@@ -33,15 +34,12 @@ pub data Refusal : Type 0 where
   BadImage : (fault : Fault) → Refusal
   BadScript : (fault : ℕ × Broken) → Refusal
 
--- the most bytes of each file: 32 MiB, 1 MiB, 16 MiB
+-- the most bytes of an image and of a script: 32 MiB, 1 MiB
 abbrev pub image_max : ℕ
 image_max = 33554432
 
 abbrev pub script_max : ℕ
 script_max = 1048576
-
-abbrev pub disk_max : ℕ
-disk_max = 16777216
 
 -- a file of at most so many bytes
 abbrev pub file_in : ℕ → Refusal → Option (List ℕ) → Result (List ℕ) Refusal
@@ -53,7 +51,7 @@ unfoldable pub bytes_in : Found → Result Bytes Refusal
 bytes_in found = do
   image ← file_in image_max ImageTooLong found.image
   script ← file_in script_max ScriptTooLong found.script
-  disk ← file_in disk_max DiskTooLong found.disk
+  disk ← file_in MOST_DISK_BYTES DiskTooLong found.disk
   Ok (record { image = image; script = script; disk = disk })
 
 abbrev pub as_image : Result Image Fault → Result Image Refusal

@@ -1,4 +1,5 @@
 -- What the readers of a run's files answer.
+use Rattle.memory_map.specs.declared.TheConstants.{MOST_DISK_BYTES}
 use Rattle.std.specs.Prelude.{◌≡◌, ◌⊎◌, ℕ, ◌<◌, List, length, Option, Some, None, IsSome, Result, Ok, Err}
 use Rattle.after_edge.specs.Fault.{Rose}
 use Rattle.after_edge.specs.Files.{Contents, IsThere}
@@ -12,7 +13,7 @@ use Rattle.run_inputs.specs.declared.inputs.Inputs.{Inputs}
 use Rattle.run_inputs.specs.declared.reading.FileBytes.{FileBytes}
 use Rattle.run_inputs.specs.Faults.{image_fault, script_fault}
 use Rattle.run_inputs.specs.Files.{IsFound}
-use Rattle.run_inputs.specs.Given.{Bytes, Given, BadImage, BadScript, disk_max, given_in}
+use Rattle.run_inputs.specs.Given.{Bytes, Given, BadImage, BadScript, given_in}
 
 -- the values of what is returned
 abbrev pub given_by : Inputs → Given
@@ -51,7 +52,7 @@ abbrev pub IsDiskRefused : Option Contents → Option (List ℕ) → (before now
     → Type 0
 IsDiskRefused content None before now told = ⊥
 IsDiskRefused content (Some name) before now told =
-    IsFileRefused content name disk_max fault.DiskTooLong before now told
+    IsFileRefused content name MOST_DISK_BYTES fault.DiskTooLong before now told
 
 -- Memory is asked for only for an image whose header and table are right, or for a script beside an image that is right.
 abbrev pub MayLackMemory : ℕ → Bytes → Type 0

@@ -1,11 +1,11 @@
 //! What the files of a run give it.
-ghost use Rattle.memory_map.specs.declared.TheConstants.{LEAST_RAM_KIB, MOST_RAM_KIB};
+ghost use Rattle.memory_map.specs.declared.TheConstants.{LEAST_RAM_KIB, MOST_DISK_BYTES, MOST_RAM_KIB};
 ghost use Rattle.std.specs.Prelude.{◌≡◌, ◌*◌, ◌≤◌, Ok, IfOk, IfErr, OnOk, length, option_copied};
 ghost use Rattle.format_model.specs.ImageFile.{ImageFits};
 ghost use Rattle.machine_model.specs.Board.{AreMarked, IsPlayable};
 ghost use Rattle.run_inputs.specs.Faults.{HasCause};
 ghost use Rattle.run_inputs.specs.Files.{Comes};
-ghost use Rattle.run_inputs.specs.Given.{disk_max, inputs_in, script_max};
+ghost use Rattle.run_inputs.specs.Given.{inputs_in, script_max};
 ghost use Rattle.run_inputs.specs.Read.{IsJudgedAs, bytes_of, given_by};
 
 use crate::InputFault;
@@ -83,7 +83,7 @@ pub fn read_inputs<F: Files>(
     ensures fits { IfOk result (λ inputs. ImageFits (1024 * ram_kib) inputs.image) }
     ensures playable { IfOk result (λ inputs. IsPlayable inputs.script) }
     ensures marked { IfOk result (λ inputs. AreMarked inputs.script.entries) }
-    ensures disk { IfOk result (λ inputs. length inputs.disk.items ≤ disk_max) }
+    ensures disk { IfOk result (λ inputs. length inputs.disk.items ≤ MOST_DISK_BYTES) }
 
     ensures same { F.content files.new ≡ F.content files.old }
 {

@@ -1,12 +1,14 @@
 //! The bytes of a run's files.
+ghost use Rattle.memory_map.specs.declared.TheConstants.{MOST_DISK_BYTES};
 ghost use Rattle.std.specs.Prelude.{◌≡◌, ◌≤◌, Ok, Some, OnOk, IfOk, IfErr, length, option_copied};
 ghost use Rattle.run_inputs.specs.Faults.{HasCause};
 ghost use Rattle.run_inputs.specs.Files.{Comes, IsDiskFound, IsFound};
-ghost use Rattle.run_inputs.specs.Given.{bytes_in, disk_max};
+ghost use Rattle.run_inputs.specs.Given.{bytes_in};
 ghost use Rattle.run_inputs.specs.Read.{IsDiskRefused, IsFileRefused, bytes_of};
 
 use crate::InputFault;
 use after_edge::{FileFault, Files, read_all};
+use memory_map::MOST_DISK_BYTES;
 use std::alloc::Global;
 
 /// The most bytes of an image's file.
@@ -14,9 +16,6 @@ const IMAGE_MAX: usize = 0x200_0000;
 
 /// The most bytes of a script's file.
 const SCRIPT_MAX: usize = 0x10_0000;
-
-/// The most bytes of a disk's file.
-const DISK_MAX: usize = 0x100_0000;
 
 /// The bytes of a run's files; those of the disk are none where no disk is named.
 #[derive(Drop)]
@@ -60,14 +59,14 @@ fn read_disk<F: Files>(
 ) -> Result<Vec<u8>, InputFault>
     ensures read { IfOk result
         (λ bytes. IsDiskFound (F.content files.old) (option_copied name.entry) (Some bytes.items)) }
-    ensures within { IfOk result (λ bytes. length bytes.items ≤ disk_max) }
+    ensures within { IfOk result (λ bytes. length bytes.items ≤ MOST_DISK_BYTES) }
     ensures still { OnOk result (F.faults files.new ≡ F.faults files.old) }
     ensures refused { IfErr result (IsDiskRefused (F.content files.old) (option_copied name.entry)
         (F.faults files.old) (F.faults files.new)) }
     ensures same { F.content files.new ≡ F.content files.old }
 {
     match name {
-        Some(name) => read_file(alloc, files, name, DISK_MAX, InputFault::DiskTooLong),
+        Some(name) => read_file(alloc, files, name, MOST_DISK_BYTES, InputFault::DiskTooLong),
         None => Ok(Vec::new(alloc)),
     }
 }

@@ -7,4 +7,4 @@ mod turns;
 
 pub use kinds::Kinds;
 pub use letter::Letter;
-pub use turns::Turns;
+pub use turns::{MOST_TURNS, Turns};

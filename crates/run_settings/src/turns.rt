@@ -6,11 +6,14 @@ ghost use Rattle.run_settings.specs.Patterns.{IsPattern, has_reads, is_letter, i
 use crate::letter::Letter;
 use std::marker::Model;
 
-/// Turns that are taken one after another, and then anew: at most 64. They lie in the value itself, so that no call takes
+/// The most turns of a pattern.
+pub const MOST_TURNS: usize = 64;
+
+/// Turns that are taken one after another, and then anew: at most `MOST_TURNS`. They lie in the value itself, so that no call takes
 /// memory.
 #[derive(Drop)]
 pub struct Turns {
-    places: [Letter; 64],
+    places: [Letter; MOST_TURNS],
     used: usize,
 }
 
@@ -112,7 +115,7 @@ impl Turns {
         ensures { result ≡ [] }
     {
         Turns {
-            places: [Letter::Record; 64],
+            places: [Letter::Record; MOST_TURNS],
             used: 0,
         }
     }

@@ -92,6 +92,7 @@ fn padded(mut disk: Vec<u8>) -> Result<Vec<u8>, NoMemory>
 
 impl Board {
     ghost use Rattle.std.specs.Prelude.{◌≡◌, ◌≢◌, ℕ, ◌+◌, ◌-◌, ◌^◌, ◌≤◌, ◌<◌, List, [], length, drop, slice_get, vec_len, IfOk, IsSome, ◌↔◌};
+    ghost use Rattle.memory_map.specs.declared.TheConstants.{MOST_DISK_BYTES, MOST_RAM_BYTES};
     ghost use Rattle.run_events.specs.declared.supply.DmaWord.{DmaWord};
     ghost use Rattle.machine_model.specs.Script.{Script as Outside};
     ghost use Rattle.machine_model.specs.Board as model;
@@ -105,7 +106,7 @@ impl Board {
     /// only call that takes memory.
     pub fn new(_alloc: Global, script: Script, disk: Vec<u8>) -> Result<Board, NoMemory>
         requires script { IsPlayable script }
-        requires disk { vec_len disk ≤ 2 ^ 24 }
+        requires disk { vec_len disk ≤ MOST_DISK_BYTES }
         ensures stands { IfOk result
             (λ board. Stands script 0 [] (model.reset_board (model.padded disk.items)) board) }
         ensures begun { IfOk result (λ board. steps_begun board ≡ 0) }
@@ -266,7 +267,7 @@ impl Board {
     // A store to the command of the disk.
     fn command(&mut self, command: u32, ram: &Ram)
         requires begun { 1 ≤ self.old.begun }
-        requires ram { length ram.now ≤ 2 ^ 24 }
+        requires ram { length ram.now ≤ MOST_RAM_BYTES }
         ensures begun { self.new.begun ≡ self.old.begun }
         ensures left { self.new.disk.sending ≡ self.old.disk.sending }
         ensures stands { (script : Outside) (step : ℕ) (words : List DmaWord) (state : BoardState)
@@ -282,7 +283,7 @@ impl Board {
     // What a store to a register changes in the board.
     fn put(&mut self, register: Register, value: u32, ram: &Ram)
         requires begun { 1 ≤ self.old.begun }
-        requires ram { length ram.now ≤ 2 ^ 24 }
+        requires ram { length ram.now ≤ MOST_RAM_BYTES }
         ensures begun { self.new.begun ≡ self.old.begun }
         ensures left { self.new.disk.sending ≡ self.old.disk.sending }
         ensures stands { (script : Outside) (step : ℕ) (words : List DmaWord) (state : BoardState)
@@ -311,7 +312,7 @@ impl Board {
     pub fn store(&mut self, address: u32, value: u32, ram: &Ram) -> Effect
         requires begun { 1 ≤ steps_begun self.old }
         requires register { IsSome (model.register_at address) }
-        requires ram { length ram.now ≤ 2 ^ 24 }
+        requires ram { length ram.now ≤ MOST_RAM_BYTES }
         ensures effect { result ≡ effect_of address value }
         ensures stands { (script : Outside) (step : ℕ) (words : List DmaWord) (state : BoardState)
             → Stands script (step + 1) words state self.old

@@ -50,7 +50,7 @@ impl Disk {
     ghost use Rattle.std.specs.List.{list_any};
     ghost use Rattle.run_events.specs.declared.supply.DmaWord.{DmaWord};
     ghost use Rattle.memory_map.specs.Ram.{InRam};
-    ghost use Rattle.memory_map.specs.declared.TheConstants.{RAM_START};
+    ghost use Rattle.memory_map.specs.declared.TheConstants.{MOST_RAM_BYTES, RAM_START};
     ghost use Rattle.rv_memory.specs.Ram.{placed};
     ghost use Rattle.machine_model.specs.Script.{Script};
     ghost use Rattle.machine_model.specs.Board as model;
@@ -165,7 +165,7 @@ impl Disk {
     {
         (command == 1 || command == 2)
             && ((self.sector as usize) < self.count()
-                && (self.address % 4 == 0 && ram.holds(self.address, 512)))
+                && (self.address % 4 == 0 && ram.holds(self.address, SECTOR_BYTES as u32)))
     }
 
     // Begins to read: keeps the words of the sector until the command completes.
@@ -204,7 +204,7 @@ impl Disk {
         ensures sent { self.new.pending.sent ≡ 512 }
     {
         let at = SECTOR_BYTES * self.sector as usize;
-        self.bytes[at..at + SECTOR_BYTES].copy_from_slice(ram.bytes(self.address, 512));
+        self.bytes[at..at + SECTOR_BYTES].copy_from_slice(ram.bytes(self.address, SECTOR_BYTES as u32));
         self.pending.sent = SECTOR_BYTES;
         self.pending.address = self.address;
         self.activity = Activity::Busy { before };
@@ -212,7 +212,7 @@ impl Disk {
 
     /// A store to the command; one that is accepted completes before the step `before`.
     pub fn command(&mut self, command: u32, before: u64, ram: &Ram)
-        requires { length ram.now ≤ 2 ^ 24 }
+        requires { length ram.now ≤ MOST_RAM_BYTES }
         ensures sending { self.new.sending ≡ self.old.sending }
         ensures serves { (script : Script) (step : ℕ) (words : List DmaWord) (state : BoardState)
             → before ≡ step + model.latency script step

@@ -7,6 +7,9 @@ ghost use Rattle.rv_devices.specs.Entries.{given};
 use in_script::{Entry, What};
 use run_events::Supplied;
 
+// The latency of the disk, in steps, until a script says another.
+const FIRST_LATENCY: u32 = 1000;
+
 /// The entries of a script, how many of them are due, the latency in force, and the place of the next serial byte.
 #[derive(Drop)]
 pub struct Schedule {
@@ -88,7 +91,7 @@ impl Schedule {
         Schedule {
             entries,
             place: 0,
-            latency: 1000,
+            latency: FIRST_LATENCY,
             source: 0,
             taken: 0,
         }

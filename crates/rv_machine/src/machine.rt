@@ -1,5 +1,5 @@
 //! The recorder.
-ghost use Rattle.memory_map.specs.declared.TheConstants.{LEAST_RAM_KIB, MOST_RAM_KIB, MOST_STEPS};
+ghost use Rattle.memory_map.specs.declared.TheConstants.{LEAST_RAM_KIB, MOST_DISK_BYTES, MOST_RAM_BYTES, MOST_RAM_KIB, MOST_STEPS};
 ghost use Rattle.std.specs.Prelude.{◌≡◌, ◌+◌, ◌%◌, ◌*◌, ◌^◌, ◌<◌, ◌≤◌, ℕ, false, true, List, IfOk, IsTrue, is_some, length, map, vec_len};
 ghost use Rattle.any_machine.specs.Log.{items};
 ghost use Rattle.any_machine.specs.Machine.{is_load};
@@ -42,7 +42,7 @@ pub struct Machine {
     ghost drained: { words_due board ≤ sends phase },
     ghost room: { cpu.step + left + inside phase ≤ MOST_STEPS },
     ghost given: { awaits phase (is_load (needs cpu lines)) ≡ true },
-    ghost size: { length cpu.ram ≤ 2 ^ 24 },
+    ghost size: { length cpu.ram ≤ MOST_RAM_BYTES },
 }
 
 impl CrossesThreads for Machine {}
@@ -80,7 +80,7 @@ impl Machine {
         requires loadable { IsLoadable (1024 * ram_kib) image.now.segments }
         requires aligned { image.now.entry % grain ≡ 0 }
         requires script { IsPlayable script }
-        requires disk { vec_len disk ≤ 2 ^ 24 }
+        requires disk { vec_len disk ≤ MOST_DISK_BYTES }
         ensures { IfOk result (λ machine. ToCome machine
             (items (run image.now script disk.items ram_kib limit))) }
     {
@@ -316,7 +316,7 @@ fn write_word(cpu: &mut Cpu, word: &DmaWord)
 fn store_access(board: &mut Board, access: &Access, ram: &Ram)
     requires begun { 1 ≤ steps_begun board.old }
     requires at { AtRegister access.now }
-    requires ram { length ram.now ≤ 2 ^ 24 }
+    requires ram { length ram.now ≤ MOST_RAM_BYTES }
     ensures stands { (script : Outside) (step : ℕ) (words : List Written) (state : BoardState)
         → Stands script (step + 1) words state board.old
         → Stands script (step + 1) words
@@ -344,7 +344,7 @@ fn store_access(board: &mut Board, access: &Access, ram: &Ram)
 fn store_outside(board: &mut Board, event: &Event, ram: &Ram)
     requires begun { 1 ≤ steps_begun board.old }
     requires at { IsAtRegister event.now }
-    requires ram { length ram.now ≤ 2 ^ 24 }
+    requires ram { length ram.now ≤ MOST_RAM_BYTES }
     ensures stands { (script : Outside) (step : ℕ) (words : List Written) (state : BoardState)
         → Stands script (step + 1) words state board.old
         → Stands script (step + 1) words

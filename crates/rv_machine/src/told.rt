@@ -9,6 +9,9 @@ use crate::phase::Phase;
 use memory_map::{POWER, SERIAL_DATA};
 use run_events::{DmaWord, EndCause, Event, Item, Record};
 
+// Each so many steps the record tells that they are done.
+const MARK_STEPS: u32 = 256;
+
 /// A record that lets no byte go.
 pub fn plain(item: Record) -> Item
     ensures { result ≡ plain_item item }
@@ -35,7 +38,7 @@ pub fn reach_item(step: u32, event: &Event) -> Option<Item>
 {
     let byte = event.byte_stored(SERIAL_DATA);
     let done = step + 1;
-    if byte.is_some() || done % 256 == 0 {
+    if byte.is_some() || done % MARK_STEPS == 0 {
         Some(Item {
             item: Record::Reach { step: done },
             byte,
@@ -49,7 +52,7 @@ pub fn reach_item(step: u32, event: &Event) -> Option<Item>
 pub fn mark_item(done: u32) -> Option<Item>
     ensures { items_of result ≡ mark_items done }
 {
-    if done % 256 == 0 {
+    if done % MARK_STEPS == 0 {
         Some(plain(Record::Reach { step: done }))
     } else {
         None

@@ -18,11 +18,13 @@ pub struct Ram {
 impl SharedByThreads for Ram {}
 
 impl Model for Ram {
+    ghost use Rattle.memory_map.specs.declared.TheConstants.{MOST_RAM_BYTES};
+
     ghost Value = { List ℕ };
 
     ghost view = { λ r. r.bytes.items };
 
-    ghost invariant = { λ r. length r.bytes.items ≤ 16777216 };
+    ghost invariant = { λ r. length r.bytes.items ≤ MOST_RAM_BYTES };
 }
 
 // The two bytes from a place on, little-endian.

@@ -1,6 +1,6 @@
 //! The shadow of RAM.
 ghost use Rattle.std.specs.Prelude.{◌≡◌, ℕ, ◌+◌, ◌-◌, ◌*◌, ◌^◌, ◌<◌, ◌≤◌, true, false, min, List, [], ◌∷◌, ◌++◌, length, take, drop, replicate, slice_index, IfOk, IfSome, IfNone};
-ghost use Rattle.memory_map.specs.declared.TheConstants.{LEAST_RAM_KIB, MOST_RAM_KIB, RAM_START};
+ghost use Rattle.memory_map.specs.declared.TheConstants.{LEAST_RAM_KIB, MOST_RAM_BYTES, MOST_RAM_KIB, RAM_START};
 ghost use Rattle.memory_map.specs.Ram.{InRam};
 ghost use Rattle.shadow_state.specs.Shade.{Shade, Paint, shade, has_byte, painted_from, painted, last_paint, IsPainted, IsLeast, NoneBetween};
 ghost use Rattle.shadow_state.specs.Places.{IsFirstPlace, NoPlace};
@@ -19,13 +19,14 @@ impl SharedByThreads for Shadow {}
 
 impl Model for Shadow {
     ghost use Rattle.std.specs.Prelude.{◌≤◌, length};
+    ghost use Rattle.memory_map.specs.declared.TheConstants.{MOST_RAM_BYTES};
     ghost use Rattle.shadow_state.specs.Shade.{Shade};
 
     ghost Value = { Shade };
 
     ghost view = { λ s. record { bytes = s.bytes.items } };
 
-    ghost invariant = { λ s. length s.bytes.items ≤ 16777216 };
+    ghost invariant = { λ s. length s.bytes.items ≤ MOST_RAM_BYTES };
 }
 
 impl Shadow {
@@ -125,7 +126,7 @@ fn lacks(four: [u8; 4], set: u8) -> bool
 
 // The place among `length` bytes of RAM of the first one at this address or after it, and `length` where there is none.
 fn place_of(address: u64, length: usize) -> usize
-    requires { length ≤ 16777216 }
+    requires { length ≤ MOST_RAM_BYTES }
     ensures { result ≡ min (address - RAM_START) length }
 {
     let place = address.saturating_sub(u64::from(RAM_START));
@@ -135,7 +136,7 @@ fn place_of(address: u64, length: usize) -> usize
 // Gives this value to the bytes of RAM in `[from, to)`.
 #[tactic(auto, using(crate::proofs::FillLaws::painted_from_fill))]
 fn paint_bytes(bytes: &mut [u8], from: u64, to: u64, value: u8)
-    requires { length bytes.old ≤ 16777216 }
+    requires { length bytes.old ≤ MOST_RAM_BYTES }
     ensures { bytes.new ≡ painted_from RAM_START from to value bytes.old }
 {
     let start = place_of(from, bytes.len());

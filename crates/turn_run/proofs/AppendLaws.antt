@@ -6,6 +6,7 @@ use Rattle.std.proofs.lemmas.List.Sums.{sum_by-cons}
 use Rattle.std.proofs.lemmas.Nat.{mul-le}
 use Rattle.std.proofs.lemmas.List.{reverse-append, length_push}
 use Rattle.std.proofs.lemmas.Bool.{and_parts, eqb-true, not-false, not-true}
+use Rattle.list_laws.proofs.PlaceLaws.{dropped-at}
 use Rattle.run_events.specs.declared.item.Item.{Item}
 use Rattle.run_events.specs.Record.{number}
 use Rattle.gate_core.specs.declared.full.Full.{Full}
@@ -15,6 +16,7 @@ use Rattle.gate_core.specs.Hub.{HubState, full_of, no_verdict, with_append, with
 use Rattle.gate_core.specs.Follow.{hub_of}
 use Rattle.gate_core.proofs.CoreLaws.{event_IsSound}
 use Rattle.gate_core.proofs.FollowLaws.{appends, named}
+use Rattle.output_gate.specs.declared.TheConstants.{ROOM}
 use Rattle.output_gate.specs.Gate.{GateState, is_full, is_withheld, with_issue}
 use Rattle.turn_run.specs.declared.ending.Ending.{Ending}
 use Rattle.turn_run.specs.declared.parts.Parts.{Parts}
@@ -78,7 +80,7 @@ module _ {M F : Type 0} (r : Recording M) (f : Following F) (c : Course) (core :
 
   -- nothing is to come: the log is closed
   pub after_close : (source : Source M) (hub : HubState) → parts.hub.closed ≡ false → hub ≡ with_close parts.hub → drop core.appended c.items ≡ [] → StillToCome r source []
-      → HasClosed r f c core (record { source = source; hub = hub; followers = parts.followers; required = parts.required; gate = parts.gate; end = parts.end })
+      → HasClosed r f c core parts (record { source = source; hub = hub; followers = parts.followers; required = parts.required; gate = parts.gate; end = parts.end })
   after_close source hub opened hub_is none left =
       let fs = at.follows in
       let all : core.appended ≡ length c.items = omega (arith, no_item_left c is core.appended none, fs.sound.appended, length_log c is) in
@@ -94,6 +96,8 @@ module _ {M F : Type 0} (r : Recording M) (f : Following F) (c : Course) (core :
           end = at.end;
           sound = at.sound;
         };
+        gate = refl;
+        followers = refl;
       }
 
   -- an item is to come
@@ -109,13 +113,15 @@ module _ {M F : Type 0} (r : Recording M) (f : Following F) (c : Course) (core :
 
     pub after_append : (source : Source M) (hub : HubState) (gate : GateState) (end : Option Ending) → parts.hub.closed ≡ false → true ≡ has_room parts.hub parts.gate item
         → hub ≡ with_append parts.hub item.item → gate ≡ with_item parts.gate item → end ≡ end_at item.item → StillToCome r source rest
-        → HasAppended r f c core (record { source = source; hub = hub; followers = parts.followers; required = parts.required; gate = gate; end = end })
+        → HasAppended r f c core parts (record { source = source; hub = hub; followers = parts.followers; required = parts.required; gate = gate; end = end })
     after_append source hub gate end opened room hub_is gate_is end_is left =
         let fs = at.follows in
         let both = rooms (full_of parts.hub) (is_some item.byte && is_full parts.gate) room in
         let does = appends (plan_of c) core parts.hub.verdicts item.item fs.sound (open_before opened) at.sound next.at (full_none both.0) in
         record {
           «open» = open_before opened;
+          item = item;
+          next = dropped-at core.appended c.items item rest first;
           at = record {
             follows = follows_as f c core parts.hub parts.followers.items fs (core.appended + 1) core.closed hub (hub_is ∙ ap (λ h. with_append h item.item) fs.stands ∙ does.after)
                 (event_IsSound (plan_of c) core Append (is_plan c is) fs.sound does.may);
@@ -125,6 +131,8 @@ module _ {M F : Type 0} (r : Recording M) (f : Following F) (c : Course) (core :
             end = end_is ∙ sym (ap end_in next.longer ∙ ap end_back (reverse-append (take core.appended (log_of c)) (item.item ∷ [])));
             sound = at.sound;
           };
+          gate = gate_is;
+          followers = refl;
         }
 
     -- the item is put back, and nothing else has changed
@@ -146,16 +154,18 @@ module _ {M F : Type 0} (r : Recording M) (f : Following F) (c : Course) (core :
         inl (one.0, omega (arith, one.1.0, at.follows.sound.taken), one.1.1)
     no_room None here none =
         let both = and_parts (is_some item.byte) (is_full parts.gate) (not-false (is_some item.byte && is_full parts.gate) none) in
-        inr (eqb-true (length parts.gate.steps) 4096 both.1, ap next_has_byte first ∙ both.0)
+        inr (eqb-true (length parts.gate.steps) ROOM both.1, ap next_has_byte first ∙ both.0)
 
     pub waits : (source : Source M) (hub : HubState) (gate : GateState) → parts.hub.closed ≡ false → false ≡ has_room parts.hub parts.gate item → hub ≡ parts.hub → gate ≡ parts.gate → StillToCome r source (item ∷ rest)
         → HasWaited r f c core parts (record { source = source; hub = hub; followers = parts.followers; required = parts.required; gate = gate; end = parts.end })
     waits source hub gate opened none hub_is gate_is left = record {
       «open» = open_before opened;
+      more = next.less;
       crowded = no_room (full_of parts.hub) refl (sym none);
       at = same_run source hub gate hub_is gate_is left;
       hub = hub_is;
       gate = gate_is;
+      followers = refl;
     }
 
 -- WHAT EACH TURN LEAVES

@@ -14,6 +14,7 @@ use Rattle.run_events.specs.declared.record.Record.TheVariants.{Reach}
 use Rattle.run_events.specs.declared.item.Item.{Item}
 use Rattle.any_machine.specs.Log.{before_step, byte_of, SentByte, sent_at, steps_of, bytes_in}
 use Rattle.gate_core.specs.Core.{CoreState, Append, core_after, reached}
+use Rattle.output_gate.specs.declared.TheConstants.{ROOM}
 use Rattle.output_gate.specs.Gate.{GateState, Climbs, passed_after, is_full, is_withheld, with_issue}
 use Rattle.turn_run.specs.Course.{Course, IsCourse, output_of, plan_of, end_of}
 use Rattle.turn_run.specs.Gates.{Gates, issued_by, not_withheld, still_waiting, with_item, with_byte}
@@ -85,7 +86,7 @@ module _ (c : Course) (core : CoreState) (gate : GateState) (g : Gates c core ga
       withheld = g.withheld;
       sound = g.sound;
       there = omega (arith, ap length (kept_is false not), length_push (not_withheld gate.from (issued_by c core.appended)) (sent_at step byte), g.there);
-      few = omega (arith, length_push gate.steps step, eqb-false (length gate.steps) 4096 room, g.few);
+      few = omega (arith, length_push gate.steps step, eqb-false (length gate.steps) ROOM room, g.few);
     })
     issued_by_case true is_so =
         let same : not_withheld gate.from (issued_by c (core.appended + 1)) ≡ not_withheld gate.from (issued_by c core.appended) = kept_is true is_so ∙ append-nil (not_withheld gate.from (issued_by c core.appended)) in

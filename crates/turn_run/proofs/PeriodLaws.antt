@@ -29,7 +29,7 @@ use Rattle.turn_run.specs.Gates.{Gates}
 use Rattle.turn_run.specs.Closings.{IsReadOut}
 use Rattle.turn_run.specs.Periods.{HaveMoved, IsIdle, Moves}
 use Rattle.turn_run.specs.Replicas.{Follows, core_after_read}
-use Rattle.turn_run.specs.Runs.{AllRead, AllTaken, HasBroken, HasCome, HasCrashed, HasReleased, IsAt, IsBesides, Lessens, LessensRead, Reads, Records, bytes_between, turns_left, unread, with_released}
+use Rattle.turn_run.specs.Runs.{AllRead, AllTaken, HasBroken, HasCome, HasCrashed, HasReleased, IsAt, IsBesides, Lessens, LessensRead, Reads, Records, approved_count, bytes_between, turns_left, unread, with_released}
 use Rattle.turn_run.specs.Sources.{StillToCome, items_left}
 use Rattle.turn_run.proofs.CourseLaws.{is_plan}
 use Rattle.turn_run.proofs.LeastLaws.{least-rises}
@@ -73,11 +73,11 @@ module _ {M F : Type 0} (r : Recording M) (f : Following F) (c : Course) where
     pub comes_released : (core : CoreState) (before after : Parts M F) (old new : S) → HasReleased r f c core before after sink old new → HasCome r f c core.released after sink old new
     comes_released core before after old new has = record { next = with_released core has.count; at = has.at; more = has.more; put = has.put }
 
-    pub crashes : (core : CoreState) (before after : Parts M F) (old new : S) → IsAt r f c core before → HasBroken r f c core after sink old new → HasCrashed r f c core.released after sink old new
+    pub crashes : (core : CoreState) (before after : Parts M F) (old new : S) → IsAt r f c core before → HasBroken r f c core before after sink old new → HasCrashed r f c core.released after sink old new
     crashes core before after old new at has = record {
-      next = core_after (plan_of c) core (Break has.count has.done);
+      next = core_after (plan_of c) core (Break (approved_count r f c core before.gate) has.done);
       broken = has.broken;
-      failed = record { before = core; sound = at.follows.sound; piece = has.count; done = has.done; may = has.may; appended = refl; out = refl };
+      failed = record { before = core; sound = at.follows.sound; piece = approved_count r f c core before.gate; done = has.done; may = has.may; appended = refl; out = refl };
       more = omega arith;
       put = has.put;
       rose = has.rose;

@@ -21,7 +21,7 @@ use Rattle.turn_run.specs.Following.{Following}
 use Rattle.turn_run.specs.Course.{Course, IsCourse, Agrees, plan_of}
 use Rattle.turn_run.specs.Gates.{Gates, IsLimit, least_approved, refusals, withheld_from}
 use Rattle.turn_run.specs.Replicas.{Follows}
-use Rattle.turn_run.specs.Runs.{AllTaken, HasBroken, HasReleased, IsAt, bytes_between, with_released}
+use Rattle.turn_run.specs.Runs.{AllTaken, HasBroken, HasReleased, IsAt, approved_count, bytes_between, with_released}
 use Rattle.turn_run.proofs.CourseLaws.{is_plan, length_log, reach_within}
 use Rattle.turn_run.proofs.LeastLaws.{least-each, least-is}
 use Rattle.turn_run.proofs.PartLaws.{approved_is}
@@ -148,30 +148,38 @@ module _ {M F : Type 0} (r : Recording M) (f : Following F) (c : Course) (core :
             none = λ taken. ap (λ (g : GateState). g.steps) here ∙ none_left taken;
             source = refl;
             hub = refl;
+            followers = refl;
             fewer = subst (λ (g : GateState). (g.steps ≡ parts.gate.steps) × (core.released + count_below below parts.gate.steps ≡ core.released) ⊎ (length g.steps < length parts.gate.steps)) (sym here) fewer_of;
           }
 
       pub broken_off : (gate : GateState) → gate ≡ with_failure parts.gate (count_below below parts.gate.steps) → 1 ≤ count_below below parts.gate.steps → WritesPart sink old new (take (count_below below parts.gate.steps) parts.gate.bytes)
-          → HasBroken r f c core (record { source = parts.source; hub = parts.hub; followers = parts.followers; required = parts.required; gate = gate; end = parts.end }) sink old new
+          → HasBroken r f c core parts (record { source = parts.source; hub = parts.hub; followers = parts.followers; required = parts.required; gate = gate; end = parts.end }) sink old new
       broken_off gate made some added =
           let plan = plan_of c in
-          let part : WritesPart sink old new (bytes_between c core.released (core.released + count)) = WritesPart-same sink old new (put_is c is core parts.gate at.gates below least) added in
-          let begins = between-prefix c core.released count part.part part.is_prefix in
+          let low = least_approved core.approved c.required in
+          let piece = approved_count r f c core parts.gate in
+          let same : count ≡ piece = ap (λ n. count_below n parts.gate.steps) least in
+          let failed : gate ≡ with_failure parts.gate piece = made ∙ ap (with_failure parts.gate) same in
+          let puts : take count parts.gate.bytes ≡ bytes_between c core.released (core.released + piece) = ap (λ n. take n parts.gate.bytes) same ∙ put_is c is core parts.gate at.gates low refl in
+          let part : WritesPart sink old new (bytes_between c core.released (core.released + piece)) = WritesPart-same sink old new puts added in
+          let begins = between-prefix c core.released piece part.part part.is_prefix in
           let done = length part.part in
-          let may : May plan core (Break count done) = (releasable c is core parts.gate at.gates below least at.follows.sound at.sound some, begins.0) in
+          let may : May plan core (Break piece done) = (releasable c is core parts.gate at.gates low refl at.follows.sound at.sound (omega (arith, some, same)), begins.0) in
           record {
-            count = count;
             done = done;
             may = may;
             put = subst (Adds sink.holds old new) begins.1 part.added;
             rose = part.rose;
-            uncounted = ap (λ (g : GateState). g.released) made ∙ at.gates.released;
+            gate = failed;
             broken = record {
-              follows = follows_on f c core parts.hub parts.followers.items at.follows true (core.released + done) (event_IsSound plan core (Break count done) (is_plan c is) at.follows.sound may);
+              follows = follows_on f c core parts.hub parts.followers.items at.follows true (core.released + done) (event_IsSound plan core (Break piece done) (is_plan c is) at.follows.sound may);
               end = at.end;
-              issued = ap (λ (g : GateState). g.issued) made ∙ at.gates.issued;
-              released = omega (arith, ap (λ (g : GateState). g.released) made, at.gates.released);
-              there = omega (arith, begins.0, within_issued c is core parts.gate at.gates below least);
+              issued = ap (λ (g : GateState). g.issued) failed ∙ at.gates.issued;
+              released = omega (arith, ap (λ (g : GateState). g.released) failed, at.gates.released);
+              there = omega (arith, begins.0, within_issued c is core parts.gate at.gates low refl);
               failed = refl;
             };
+            source = refl;
+            hub = refl;
+            followers = refl;
           }

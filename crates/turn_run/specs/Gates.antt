@@ -8,6 +8,7 @@ use Rattle.any_machine.specs.Log.{before_step, bytes_of, SentByte, steps_of, byt
 use Rattle.gate_core.specs.Core.{CoreState}
 use Rattle.gate_core.specs.Follow.{approvals}
 use Rattle.gate_core.specs.Hub.{HubState, approved_at, full_of, verdict_at, with_append}
+use Rattle.output_gate.specs.declared.TheConstants.{ROOM}
 use Rattle.output_gate.specs.Gate.{GateState, passed_after, count_below, is_full, with_issue, with_release, with_withheld}
 use Rattle.turn_run.specs.Course.{Course, least_limit, stop_of}
 
@@ -55,7 +56,7 @@ pub record Gates (c : Course) (core : CoreState) (gate : GateState) : Type 0 whe
   pub withheld : IsWithheldFrom c gate.from
   pub sound : gate.failed ≡ false
   pub there : core.released ≤ length (not_withheld gate.from (issued_by c core.appended))
-  pub few : length gate.steps ≤ 4096
+  pub few : length gate.steps ≤ ROOM
 
 -- how many of the waiting bytes are of steps that all of these readers approve
 abbrev pub approved_in : HubState → List ℕ → GateState → ℕ

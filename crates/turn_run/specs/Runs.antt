@@ -1,10 +1,11 @@
 -- A run under way, where the core stands, and what each turn makes of it.
-use Rattle.std.specs.Prelude.{◌≡◌, ◌⊎◌, ℕ, ◌+◌, ◌-◌, ◌*◌, ◌≤◌, ◌<◌, Bool, true, false, if◌then◌else◌, List, [], ◌∷◌, length, take, drop, is_some, sum_by, slice_index}
+use Rattle.std.specs.Prelude.{◌≡◌, ◌⊎◌, ℕ, ◌+◌, ◌-◌, ◌*◌, ◌≤◌, ◌<◌, Bool, true, false, if◌then◌else◌, List, [], ◌∷◌, length, take, drop, is_some, sum_by, slice_get, slice_index, Some}
 use Rattle.after_edge.specs.Fault.{Rose}
 use Rattle.after_edge.specs.Sink.{Telling, Adds, Writes}
 use Rattle.gate_core.specs.Core.{CoreState, Append, Close, Break, IsSound, May, core_after}
 use Rattle.gate_core.specs.Hub.{HubState}
-use Rattle.output_gate.specs.Gate.{GateState, count_below, with_release}
+use Rattle.output_gate.specs.declared.TheConstants.{ROOM}
+use Rattle.output_gate.specs.Gate.{GateState, count_below, with_failure, with_release}
 use Rattle.run_events.specs.declared.item.Item.{Item}
 use Rattle.turn_run.specs.declared.parts.Parts.{Parts}
 use Rattle.turn_run.specs.declared.parts.Recorded.{Recorded}
@@ -16,7 +17,7 @@ use Rattle.turn_run.specs.Following.{Following}
 use Rattle.turn_run.specs.Sources.{StillToCome, items_left}
 use Rattle.turn_run.specs.Course.{Course, log_of, output_of, plan_of}
 use Rattle.turn_run.specs.Replicas.{Follows, core_after_read}
-use Rattle.turn_run.specs.Gates.{Gates, issued_by, least_approved, refusals, withheld_from}
+use Rattle.turn_run.specs.Gates.{Gates, issued_by, least_approved, refusals, with_item, withheld_from}
 use Rattle.turn_run.specs.Endings.{end_in}
 use Rattle.any_machine.specs.Log.{bytes_in}
 
@@ -112,36 +113,44 @@ module _ {M F : Type 0} (r : Recording M) (f : Following F) where
 
   -- A TURN OF THE RECORDER
 
-  -- it appended the next record
-  pub record HasAppended (c : Course) (core : CoreState) (after : Parts M F) : Type 0 where
+  -- it appended the record of the next item, and its byte was issued to the gate
+  pub record HasAppended (c : Course) (core : CoreState) (before after : Parts M F) : Type 0 where
     pub «open» : core.closed ≡ false
+    pub item : Item
+    pub next : slice_get c.items core.appended ≡ Some item
     pub at : IsAt c (core_after (plan_of c) core Append) after
+    pub gate : after.gate ≡ with_item before.gate item
+    pub followers : after.followers.items ≡ before.followers.items
 
   -- it closed the log after the last record
-  pub record HasClosed (c : Course) (core : CoreState) (after : Parts M F) : Type 0 where
+  pub record HasClosed (c : Course) (core : CoreState) (before after : Parts M F) : Type 0 where
     pub «open» : core.closed ≡ false
     pub all : core.appended ≡ length c.items
     pub at : IsAt c (core_after (plan_of c) core Close) after
+    pub gate : after.gate ≡ before.gate
+    pub followers : after.followers.items ≡ before.followers.items
 
   -- there is no place in the log, since some follower has a whole log still to take, or none in the gate for the byte of
   -- the next record
   abbrev pub HasNoRoom : Course → CoreState → ℕ → Type 0
   HasNoRoom c core waiting =
       ((reader : ℕ) × (reader < length c.limits) × (slice_index core.taken reader + c.cap ≡ core.appended))
-      ⊎ ((waiting ≡ 4096) × (next_has_byte (drop core.appended c.items) ≡ true))
+      ⊎ ((waiting ≡ ROOM) × (next_has_byte (drop core.appended c.items) ≡ true))
 
-  -- it found no room for the next record, which waits
+  -- there is a next record, for which it found no room, and which waits
   pub record HasWaited (c : Course) (core : CoreState) (before after : Parts M F) : Type 0 where
     pub «open» : core.closed ≡ false
+    pub more : core.appended < length c.items
     pub crowded : HasNoRoom c core (length before.gate.steps)
     pub at : IsAt c core after
     pub hub : after.hub ≡ before.hub
     pub gate : after.gate ≡ before.gate
+    pub followers : after.followers.items ≡ before.followers.items
 
   -- what a turn of the recorder answers, and where it leads
   abbrev pub Records : Course → CoreState → Recorded → Parts M F → Parts M F → Type 0
-  Records c core Appended before after = HasAppended c core after
-  Records c core Closed before after = HasClosed c core after
+  Records c core Appended before after = HasAppended c core before after
+  Records c core Closed before after = HasClosed c core before after
   Records c core Waits before after = HasWaited c core before after
   Records c core Over before after = (core.closed ≡ true) × (after ≡ before)
 
@@ -170,6 +179,7 @@ module _ {M F : Type 0} (r : Recording M) (f : Following F) where
     pub none : AllTaken c core → after.gate.steps ≡ []
     pub source : after.source ≡ before.source
     pub hub : after.hub ≡ before.hub
+    pub followers : after.followers.items ≡ before.followers.items
     pub fewer : (after.gate.steps ≡ before.gate.steps) × (count ≡ core.released) ⊎ (length after.gate.steps < length before.gate.steps)
 
   -- what stands of a run whose put has failed
@@ -181,16 +191,18 @@ module _ {M F : Type 0} (r : Recording M) (f : Following F) where
     pub there : core.released ≤ length (issued_by c core.appended)
     pub failed : core.failed ≡ true
 
-  -- A put of bytes that may be released failed after the first ones, which the sink got: a break of the core, of which the
-  -- gate counts no byte as released.
-  pub record HasBroken {S : Type 0} (c : Course) (core : CoreState) (after : Parts M F) (sink : Telling S) (old new : S) : Type 0 where
-    pub count : ℕ
+  -- The put of the waiting bytes that every required follower approves failed after the first ones, which the sink got: a
+  -- break of the core, of which the gate counts no byte as released.
+  pub record HasBroken {S : Type 0} (c : Course) (core : CoreState) (before after : Parts M F) (sink : Telling S) (old new : S) : Type 0 where
     pub done : ℕ
-    pub may : May (plan_of c) core (Break count done)
+    pub may : May (plan_of c) core (Break (approved_count c core before.gate) done)
     pub put : Adds sink.holds old new (bytes_between c core.released (core.released + done))
     pub rose : Rose (sink.faults old) (sink.faults new)
-    pub uncounted : after.gate.released ≡ core.released
-    pub broken : IsBroken c (core_after (plan_of c) core (Break count done)) after
+    pub gate : after.gate ≡ with_failure before.gate (approved_count c core before.gate)
+    pub broken : IsBroken c (core_after (plan_of c) core (Break (approved_count c core before.gate) done)) after
+    pub source : after.source ≡ before.source
+    pub hub : after.hub ≡ before.hub
+    pub followers : after.followers.items ≡ before.followers.items
 
   -- A PERIOD OF TURNS
 

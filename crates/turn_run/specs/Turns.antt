@@ -41,7 +41,7 @@ module _ {M F S : Type 0} (r : Recording M) (f : Following F) (sink : Telling S)
 
   -- in one turn, which is the gate's, a put failed
   abbrev pub Fails : Letter → Parts M F → Parts M F → S → S → Type 0
-  Fails turn before after old new = (turn ≡ letter.Release) × ((c : Course) (core : CoreState) → IsAt r f c core before → HasBroken r f c core after sink old new)
+  Fails turn before after old new = (turn ≡ letter.Release) × ((c : Course) (core : CoreState) → IsAt r f c core before → HasBroken r f c core before after sink old new)
 
   -- a put failed in the turn after the turns of these letters
   pub record FailsAfter (letters : List Letter) (before after : Parts M F) (old new : S) : Type 0 where

@@ -130,7 +130,8 @@ impl<M: Recorder, F: Follower> Parts<M, F> {
             O.told out.old out.new) }
         ensures err { OnErr result ((c : Course) (core : CoreState)
             → IsAt M.recording F.following c core self.old
-            → HasBroken M.recording F.following c core self.new O.told out.old out.new) }
+            → HasBroken M.recording F.following c core self.old self.new
+            O.told out.old out.new) }
         ensures made { AreSame F.following (followers_of self.old) (followers_of self.new) }
     {
         match let_out(&mut self.gate, &self.hub, &self.required, out) {
@@ -212,13 +213,40 @@ fn let_out<O: Sink>(
     ensures failed { OnErr result (gate.new
         ≡ with_failure gate.old (approved_in hub.now required.now gate.old)) }
 {
-    let below = least_approved(hub, required);
-    match gate.release(below, out) {
-        Ok(_) => {}
+    match put_approved(gate, hub, required, out) {
+        Ok(()) => {}
         Err(fault) => return Err(fault),
     }
     withhold_refused(gate, hub, required);
     Ok(())
+}
+
+// Puts the waiting bytes whose steps all of these readers approve. Where none waits no reader is asked.
+fn put_approved<O: Sink>(
+    gate: &mut OutputGate,
+    hub: &Hub,
+    required: &[u32],
+    out: &mut O,
+) -> Result<(), SinkFault>
+    requires there { All (λ reader. reader < length hub.now.taken) required.now }
+    requires sound { gate.old.failed ≡ false }
+    ensures put { OnOk result (Writes O.told out.old out.new
+        (take (approved_in hub.now required.now gate.old) gate.old.bytes)) }
+    ensures part { OnErr result (WritesPart O.told out.old out.new
+        (take (approved_in hub.now required.now gate.old) gate.old.bytes)) }
+    ensures some { OnErr result (1 ≤ approved_in hub.now required.now gate.old) }
+    ensures after { OnOk result (gate.new ≡ after_put hub.now required.now gate.old) }
+    ensures failed { OnErr result (gate.new
+        ≡ with_failure gate.old (approved_in hub.now required.now gate.old)) }
+{
+    if gate.waiting() == 0 {
+        return Ok(());
+    }
+    let below = least_approved(hub, required);
+    match gate.release(below, out) {
+        Ok(_) => Ok(()),
+        Err(fault) => Err(fault),
+    }
 }
 
 // Below which step all of these readers approve; where there are none, all.
