@@ -14,7 +14,6 @@ use in_script::Script;
 use memory_map::{NoMemory, SERIAL_DATA, high_half, low_half, with_high, with_low};
 use run_events::{DmaWord, Supplied};
 use rv_memory::Ram;
-use std::alloc::Global;
 
 /// The devices of a machine, which go through their script once. Contracts see what they stand for by `Stands`.
 #[derive(Drop)]
@@ -104,7 +103,7 @@ impl Board {
 
     /// The board at reset, before the first step, with a disk file that is padded with zeros to whole sectors. It is the
     /// only call that takes memory.
-    pub fn new(_alloc: Global, script: Script, disk: Vec<u8>) -> Result<Board, NoMemory>
+    pub fn new(script: Script, disk: Vec<u8>) -> Result<Board, NoMemory>
         requires script { IsPlayable script }
         requires disk { vec_len disk ≤ MOST_DISK_BYTES }
         ensures stands { IfOk result

@@ -85,7 +85,7 @@ impl Machine {
             (items (run image.now script disk.items ram_kib limit))) }
     {
         let cpu = start(alloc, image, ram_kib)?;
-        let board = Board::new(alloc, script, disk)?;
+        let board = Board::new(script, disk)?;
         Ok(Machine {
             cpu,
             board,
