@@ -182,4 +182,5 @@ module _ {M F : Type 0} (r : Recording M) (f : Following F) (c : Course) (core :
             source = refl;
             hub = refl;
             followers = refl;
+            required = refl;
           }

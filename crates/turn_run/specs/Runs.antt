@@ -203,6 +203,7 @@ module _ {M F : Type 0} (r : Recording M) (f : Following F) where
     pub source : after.source ≡ before.source
     pub hub : after.hub ≡ before.hub
     pub followers : after.followers.items ≡ before.followers.items
+    pub required : after.required ≡ before.required
 
   -- A PERIOD OF TURNS
 
