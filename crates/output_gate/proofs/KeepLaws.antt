@@ -4,7 +4,7 @@ use Rattle.std.proofs.Common.{◌≡◌, ℕ, ◌+◌, ◌-◌, ◌<◌, ◌≤�
 use Rattle.std.specs.Prelude.{IfSome}
 use Rattle.std.proofs.lemmas.List.{length-drop, length-take-le, length_push}
 use Rattle.circular_buffer.specs.Buffer.{keep_last}
-use Rattle.output_gate.specs.declared.TheConstants.{ROOM}
+use Rattle.output_gate.specs.declared.gate.TheConstants.{ROOM}
 use Rattle.output_gate.specs.Gate.{GateState, IsGate, Climbs, passed_after, count_below, is_withheld, first_withheld, with_release, with_withheld}
 use Rattle.output_gate.proofs.GateLaws.{Climbs-wider, Climbs-push, Climbs-take, Climbs-drop, Climbs-min, Climbs-below, count_below-within}
 

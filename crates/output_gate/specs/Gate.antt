@@ -1,6 +1,6 @@
 -- What a gate holds, and what each call makes of it.
 use Rattle.memory_map.specs.declared.TheConstants.{MOST_STEPS}
-use Rattle.output_gate.specs.declared.TheConstants.{ROOM}
+use Rattle.output_gate.specs.declared.gate.TheConstants.{ROOM}
 use Rattle.std.specs.Prelude.{◌≡◌, ℕ, ◌+◌, ◌-◌, ◌≤◌, ◌==◌, Bool, true, false, nat_le, nat_lt, if◌then◌else◌, List, [], ◌∷◌, ◌++◌, length, take, drop, filter, min, Option, Some, None, IfSome}
 
 -- the steps and the bytes that wait, first in first; how many bytes were issued, released and withheld; one more than the

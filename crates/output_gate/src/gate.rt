@@ -3,7 +3,7 @@ ghost use Rattle.memory_map.specs.declared.TheConstants.{MOST_STEPS};
 ghost use Rattle.std.specs.Prelude.{◌≡◌, ◌+◌, ◌<◌, ◌≤◌, false, length, take, drop, is_err, IfOk, OnOk, OnErr};
 ghost use Rattle.after_edge.specs.Sink.{Writes, WritesPart};
 ghost use Rattle.circular_buffer.specs.Buffer.{buffer};
-ghost use Rattle.output_gate.specs.declared.TheConstants.{ROOM};
+ghost use Rattle.output_gate.specs.declared.gate.TheConstants.{ROOM};
 ghost use Rattle.output_gate.specs.Gate.{Climbs, passed_after, count_below, empty_gate, is_full, is_withheld, first_withheld, with_failure, with_issue, with_release, with_withheld};
 
 use after_edge::{Failed, Sink};
@@ -40,7 +40,7 @@ pub struct OutputGate {
 impl CrossesThreads for OutputGate {}
 
 impl Model for OutputGate {
-    ghost use Rattle.output_gate.specs.declared.TheConstants.{ROOM};
+    ghost use Rattle.output_gate.specs.declared.gate.TheConstants.{ROOM};
     ghost use Rattle.output_gate.specs.Gate.{GateState, IsGate};
     ghost use Rattle.std.specs.Prelude.{◌≡◌};
 

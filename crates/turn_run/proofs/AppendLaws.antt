@@ -16,7 +16,7 @@ use Rattle.gate_core.specs.Hub.{HubState, full_of, no_verdict, with_append, with
 use Rattle.gate_core.specs.Follow.{hub_of}
 use Rattle.gate_core.proofs.CoreLaws.{event_IsSound}
 use Rattle.gate_core.proofs.FollowLaws.{appends, named}
-use Rattle.output_gate.specs.declared.TheConstants.{ROOM}
+use Rattle.output_gate.specs.declared.gate.TheConstants.{ROOM}
 use Rattle.output_gate.specs.Gate.{GateState, is_full, is_withheld, with_issue}
 use Rattle.turn_run.specs.declared.ending.Ending.{Ending}
 use Rattle.turn_run.specs.declared.parts.Parts.{Parts}

@@ -14,7 +14,7 @@ use Rattle.run_events.specs.declared.record.Record.TheVariants.{Reach}
 use Rattle.run_events.specs.declared.item.Item.{Item}
 use Rattle.any_machine.specs.Log.{before_step, byte_of, SentByte, sent_at, steps_of, bytes_in}
 use Rattle.gate_core.specs.Core.{CoreState, Append, core_after, reached}
-use Rattle.output_gate.specs.declared.TheConstants.{ROOM}
+use Rattle.output_gate.specs.declared.gate.TheConstants.{ROOM}
 use Rattle.output_gate.specs.Gate.{GateState, Climbs, passed_after, is_full, is_withheld, with_issue}
 use Rattle.turn_run.specs.Course.{Course, IsCourse, output_of, plan_of, end_of}
 use Rattle.turn_run.specs.Gates.{Gates, issued_by, not_withheld, still_waiting, with_item, with_byte}

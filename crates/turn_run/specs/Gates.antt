@@ -8,7 +8,7 @@ use Rattle.any_machine.specs.Log.{before_step, bytes_of, SentByte, steps_of, byt
 use Rattle.gate_core.specs.Core.{CoreState}
 use Rattle.gate_core.specs.Follow.{approvals}
 use Rattle.gate_core.specs.Hub.{HubState, approved_at, full_of, verdict_at, with_append}
-use Rattle.output_gate.specs.declared.TheConstants.{ROOM}
+use Rattle.output_gate.specs.declared.gate.TheConstants.{ROOM}
 use Rattle.output_gate.specs.Gate.{GateState, passed_after, count_below, is_full, with_issue, with_release, with_withheld}
 use Rattle.turn_run.specs.Course.{Course, least_limit, stop_of}
 

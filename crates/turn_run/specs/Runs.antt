@@ -4,7 +4,7 @@ use Rattle.after_edge.specs.Fault.{Rose}
 use Rattle.after_edge.specs.Sink.{Telling, Adds, Writes}
 use Rattle.gate_core.specs.Core.{CoreState, Append, Close, Break, IsSound, May, core_after}
 use Rattle.gate_core.specs.Hub.{HubState}
-use Rattle.output_gate.specs.declared.TheConstants.{ROOM}
+use Rattle.output_gate.specs.declared.gate.TheConstants.{ROOM}
 use Rattle.output_gate.specs.Gate.{GateState, count_below, with_failure, with_release}
 use Rattle.run_events.specs.declared.item.Item.{Item}
 use Rattle.turn_run.specs.declared.parts.Parts.{Parts}

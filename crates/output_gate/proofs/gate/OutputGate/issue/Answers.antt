@@ -1,5 +1,5 @@
 use Rattle.std.proofs.Common.{rules, ◌≡◌, ◌<◌, ◌≤◌, false, length, refl, sym, arith}
-use Rattle.output_gate.specs.declared.TheConstants.{ROOM}
+use Rattle.output_gate.specs.declared.gate.TheConstants.{ROOM}
 use Rattle.output_gate.specs.Gate.{is_withheld}
 use Rattle.output_gate.proofs.KeepLaws.{few_wait, keep_last-room, wait-IsGate, withheld-IsGate}
 use Rattle.output_gate.proofs.gate.OutputGate.issue.Goals as goal
