@@ -4,7 +4,7 @@ use Rattle.std.proofs.lemmas.List.{at_drop_more}
 use Rattle.command_words.specs.Values.{letters_in, letter_in}
 use Rattle.command_words.proofs.ValueLaws.{behind, letters_more, letters_none, turns_short, turns_long, turns_within, letters_all}
 use Rattle.command_words.proofs.value.turns_of.Goals as goal
-use Rattle.command_words.proofs.value.turns_of.Goals.{then-is_empty-via-then-is_empty, then-is_empty-via-else-is_empty+then-text-gt64}
+use Rattle.command_words.proofs.value.turns_of.Goals.{then-is_empty-via-then-is_empty, then-is_empty-via-else-is_empty+then-text-gt-MOST_TURNS}
 
 length_some : (text : List ℕ) → (length text == 0) ≡ false → 0 < length text
 length_some text e = let h = eqb-false (length text) 0 e in omega arith
@@ -13,7 +13,7 @@ pub returns-then-is_empty : goal.returns-then-is_empty
 returns-then-is_empty c =
     elim c.then-is_empty.branch [
       | then-is_empty-via-then-is_empty w ↦ sym (turns_short c.args.text.now (eqb-true (length c.args.text.now) 0 (sym c.is_empty.ensures ∙ w.if-is_empty.true)))
-      | then-is_empty-via-else-is_empty+then-text-gt64 w ↦ sym (turns_long c.args.text.now (omega arith))
+      | then-is_empty-via-else-is_empty+then-text-gt-MOST_TURNS w ↦ sym (turns_long c.args.text.now (omega arith))
     ]
 
 pub returns-in-None : goal.returns-in-None
@@ -40,4 +40,4 @@ pub returns : goal.returns
 returns c =
     let text = c.args.text.now in
     let some : 0 < length text = length_some text (sym c.is_empty.ensures ∙ c.if-is_empty.false) in
-    sym (turns_within text some c.if-text-gt64.false ∙ letters_all text c.loop-byte.byte-index c.loop-byte.turns c.loop-byte-test.false c.loop-byte.invariant.so_far)
+    sym (turns_within text some c.if-text-gt-MOST_TURNS.false ∙ letters_all text c.loop-byte.byte-index c.loop-byte.turns c.loop-byte-test.false c.loop-byte.invariant.so_far)
