@@ -3,7 +3,7 @@ use Rattle.std.specs.Prelude.{◌≡◌, ◌⊎◌, ℕ, nat_lt, MatchBool, List
 use Rattle.after_edge.specs.Files.{Contents}
 use Rattle.after_edge.specs.Sink.{Telling, Writes}
 use Rattle.command_words.specs.declared.fault.WordsFault.{WordsFault}
-use Rattle.command_words.specs.Jobs.{RunJob, Run, Record, Analyze, Show, Load, job_in}
+use Rattle.command_words.specs.Jobs.{RunJob, Run, Record, Analyze, Show, Load}
 use Rattle.command_words.specs.Jobs as words
 use Rattle.job_model.specs.Text.{text, status}
 use Rattle.run_inputs.specs.Files.{Names}

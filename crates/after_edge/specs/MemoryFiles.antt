@@ -25,6 +25,7 @@ pub record FilesState : Type 0 where
 abbrev pub no_files : List ℕ → FilesState
 no_files numbers = record { entries = []; plan = numbers; calls = 0; faults = 0 }
 
+-- the entry of a name, which is the first one that has it
 abbrev pub is_named : List ℕ → Kept → Bool
 is_named text entry = bytes_eq entry.name text
 
@@ -58,6 +59,7 @@ with_room bytes entry = record { name = entry.name; file = entry.file; room = ma
 abbrev pub with_no_bytes : Kept → Kept
 with_no_bytes entry = record { name = entry.name; file = Some []; room = entry.room }
 
+-- the bytes of a file, and none where there is no file
 abbrev pub bytes_of : Kept → List ℕ
 bytes_of entry = unwrap_or entry.file []
 

@@ -32,6 +32,7 @@ planned_limit pairs number = option_map (λ pair. pair.1) (find (λ pair. pair.0
 abbrev pub next_limit : SinkState → Option ℕ
 next_limit s = planned_limit s.plan (raised s.puts)
 
+-- how many bytes more it takes
 abbrev pub sink_room : SinkState → ℕ
 sink_room s = s.capacity - length s.bytes
 

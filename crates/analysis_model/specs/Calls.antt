@@ -16,6 +16,7 @@ pub data Move : Type 0 where
   Push : ℕ → Move
   Pop : Move
 
+-- what an instruction tells of calls and returns, and what a word tells that is none
 abbrev pub link_as : Option Instr → Link
 link_as None = link.Plain
 link_as (Some instr) = link_of instr
@@ -49,6 +50,7 @@ answered bound waiting (Pop ∷ older) =
 answered bound zero (Push next ∷ older) = Some next
 answered bound (suc waiting) (Push next ∷ older) = answered bound waiting older
 
+-- a link by which a return address is popped
 abbrev pub has_pop : Link → Bool
 has_pop link.Plain = false
 has_pop link.Push = false
@@ -67,6 +69,7 @@ next_of (Irq step pc cause next) = next
 next_of (Trap step pc word cause value next) = next
 next_of (Exec step pc word next result access told) = next
 
+-- a return that was to lead to this address; and the same of one that leads elsewhere than its call wanted
 abbrev pub bad_return : ℕ → Complaint
 bad_return wanted = record { kind = Return; address = wanted }
 

@@ -1,9 +1,9 @@
 -- Which code a run has executed, as sets over its events.
-use Rattle.std.specs.Prelude.{ℕ, ◌+◌, ◌==◌, ◌&&◌, Bool, nat_le, nat_lt, List, [], ◌∷◌, Option, None, Some, if◌then◌else◌}
+use Rattle.std.specs.Prelude.{ℕ, ◌+◌, ◌==◌, Bool, List, [], ◌∷◌, Option, None, Some, if◌then◌else◌}
 use Rattle.std.specs.List.{filter_map, list_any}
+use Rattle.list_laws.specs.Least.{is_between}
 use Rattle.run_events.specs.declared.event.Event.{Event}
 use Rattle.run_events.specs.declared.event.Event.TheVariants.{Dma, Irq, Trap, Exec}
-use Rattle.run_events.specs.declared.finding.Finding.{Finding}
 use Rattle.run_events.specs.declared.finding.FindingKind.TheVariants.{Outside}
 use Rattle.machine_model.specs.Image.{Image, Segment}
 use Rattle.analysis_model.specs.Ascending.{ascending}
@@ -39,7 +39,7 @@ runs (pc ∷ pcs) = joined pc (runs pcs)
 abbrev pub executed_ranges : List Event → List CodeRange
 executed_ranges events = runs (executed_pcs events)
 
--- the addresses of an executable segment
+-- the addresses of the executable segments, in their order
 abbrev pub ranges_of : List Segment → List CodeRange
 ranges_of [] = []
 ranges_of (segment ∷ segments) =
@@ -54,8 +54,9 @@ executable_ranges image = ranges_of image.segments
 -- an address lies in some range
 abbrev pub is_within : List CodeRange → ℕ → Bool
 is_within ranges address =
-    list_any (λ range. nat_le range.from address && nat_lt address range.to) ranges
+    list_any (λ range. is_between range.from range.to address) ranges
 
+-- what there is to complain of a pc, where it is in no executable segment
 abbrev pub bad_pc : ℕ → Complaint
 bad_pc pc = record { kind = Outside; address = pc }
 
@@ -68,15 +69,3 @@ cover code (Dma step address word mark) = None
 cover code (Irq step pc cause next) = None
 cover code (Trap step pc word cause value next) = cover_at code pc
 cover code (Exec step pc word next result access told) = cover_at code pc
-
-abbrev pub outside_at : List CodeRange → ℕ → ℕ → Option Finding
-outside_at code step pc =
-    if is_within code pc then None
-    else Some (record { step = step; pc = pc; kind = Outside; address = pc })
-
--- the finding `outside`: an instruction was executed, or raised an exception, at a pc in no executable segment
-abbrev pub outside : List CodeRange → Event → Option Finding
-outside code (Dma step address word mark) = None
-outside code (Irq step pc cause next) = None
-outside code (Trap step pc word cause value next) = outside_at code step pc
-outside code (Exec step pc word next result access told) = outside_at code step pc

@@ -33,6 +33,7 @@ firsts (x ∷ xs) = x ∷ filter (λ y. not (y == x)) (firsts xs)
 abbrev pub counted : ℕ → List Event → List ℕ
 counted bound before = take bound (firsts (filter_map named (reverse before)))
 
+-- the test that a lock is among these
 abbrev pub has_lock : List ℕ → ℕ → Bool
 has_lock locks lock = list_any (λ other. other == lock) locks
 
@@ -42,6 +43,7 @@ pub record Guarded : Type 0 where
   pub to : ℕ
   pub lock : ℕ
 
+-- the range that an announcement guards, where its lock is one that counts
 abbrev pub guard_by : (ℕ → Bool) → Option Announcement → Option Guarded
 guard_by counts (Some (announce.Guard start size lock)) =
     if counts lock then Some (record { from = start; to = start + size; lock = lock }) else None
@@ -69,6 +71,7 @@ holder_after [] lock = None
 holder_after (last ∷ before) lock =
     unwrap_or (holder_by (announced last) lock (context_after before)) (holder_after before lock)
 
+-- the holder is this context
 abbrev pub is_held_by : Option ℕ → ℕ → Bool
 is_held_by None context = false
 is_held_by (Some holder) context = holder == context

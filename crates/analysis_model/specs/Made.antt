@@ -32,6 +32,7 @@ kind_numbered n =
     else if n == 3 then Cover
     else Locks
 
+-- the kind of an analysis that is made of these
 abbrev pub kind_made_of : List ℕ → Kind
 kind_made_of [] = Heap
 kind_made_of (kind ∷ numbers) = kind_numbered kind
@@ -43,6 +44,7 @@ ranges_made_of (address ∷ []) = []
 ranges_made_of (address ∷ size ∷ numbers) =
     record { from = address; to = address + size } ∷ ranges_made_of numbers
 
+-- the guest's code, for an analysis that is made of these
 abbrev pub code_made_of : List ℕ → List CodeRange
 code_made_of [] = []
 code_made_of (kind ∷ numbers) = ranges_made_of numbers

@@ -114,6 +114,7 @@ module _ {S : Type 0} (m : Machine S) (start : S) where
   own_fault (Load n value mark) load power = None
   own_fault (Lines n bits) load power = None
 
+  -- what step k says to a record after it, where this is the tape
   abbrev pub stop_at : (ℕ → Input) → Record → ℕ → Option Stop
   stop_at tape item k = step_stop k (load_fault_at m start tape k) (power_at m start tape k) item
 
@@ -122,6 +123,7 @@ module _ {S : Type 0} (m : Machine S) (start : S) where
   first_stop tape item zero = None
   first_stop tape item (suc k) = option_or (first_stop tape item k) (stop_at tape item k)
 
+  -- what stops the replay at a record by itself, once the steps below its number are done
   abbrev pub own_stop : (ℕ → Input) → Record → ℕ → Option Stop
   own_stop tape item n = option_map (stopped n) (own_fault item (tape n).supplied (last_power m start tape n))
 
@@ -139,6 +141,7 @@ pub record Outcome : Type 0 where
   pub done : ℕ
   pub fault : Option Diverged
 
+-- what becomes of one record more: it is taken and its steps are done, or the replay stops at it
 abbrev pub taken_or_stopped : List Record → Record → Option Stop → Outcome
 taken_or_stopped before item None = record { taken = item ∷ before; done = number item; fault = None }
 taken_or_stopped before item (Some stop) = record { taken = before; done = stop.done; fault = Some stop.fault }

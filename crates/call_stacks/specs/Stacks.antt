@@ -1,5 +1,5 @@
 -- What the analysis of calls keeps, and what it stands for.
-use Rattle.std.specs.Prelude.{◌≡◌, ℕ, ◌+◌, ◌-◌, ◌^◌, ◌<◌, ◌≤◌, List, [], ◌∷◌, length, reverse, take, drop, min, slice_get, slice_index_or, slice_set, Option, None, Some, unwrap_or}
+use Rattle.std.specs.Prelude.{◌≡◌, ℕ, ◌+◌, ◌<◌, ◌≤◌, List, [], ◌∷◌, length, reverse, take, drop, slice_get, slice_index_or, slice_set, Option, None, Some, unwrap_or}
 use Rattle.std.specs.Option.{option_map}
 use Rattle.circular_buffer.specs.Buffer.{Buffer, buffer}
 use Rattle.rv_decode.specs.declared.links.Link.{Link}
@@ -8,14 +8,13 @@ use Rattle.rv_decode.specs.Listing.{instruction}
 use Rattle.run_events.specs.declared.event.Event.{Event}
 use Rattle.run_events.specs.declared.event.Event.TheVariants.{Dma, Irq, Trap, Exec}
 use Rattle.run_events.specs.declared.finding.Finding.{Finding}
-use Rattle.run_events.specs.declared.finding.FindingKind.TheVariants.{Return}
 use Rattle.run_events.specs.declared.finding.Kind.TheVariants as kind
 use Rattle.run_events.specs.Announcement.{announced_by}
-use Rattle.analysis_model.specs.Calls.{Move, moves_in, answered, return_to, unmatched_count, link_as, frames_kept}
+use Rattle.analysis_model.specs.Calls.{Move, moves_in, answered, bad_return, return_to, unmatched_count, link_as, frames_kept}
 use Rattle.analysis_model.specs.Complaints.{Guest, findings}
 use Rattle.analysis_model.specs.Context.{entered, context_after}
 use Rattle.analysis_model.specs.Findings.{stopping}
-use Rattle.analysis_model.specs.Look.{Complaint}
+use Rattle.analysis_model.specs.Look.{finding_at}
 use Rattle.analysis_model.specs.Made.{guest_made_of}
 use Rattle.finding_tally.specs.Tallied.{Tallied, Tallies, tallied_with}
 
@@ -63,13 +62,14 @@ pub record Stands (s : Stacks) (events : List Event) : Type 0 where
 abbrev pub with_ring : Stacks → Buffer ℕ → Stacks
 with_ring s ring = record s { rings = slice_set s.rings s.context ring }
 
--- a frame more in front of a full ring drops the last one
+-- a ring with one frame more in front, where a full one drops its last frame; and a ring without its first frame
 abbrev pub pushed_on : Buffer ℕ → ℕ → Buffer ℕ
 pushed_on ring link = buffer (take ring.capacity (link ∷ ring.items)) ring.capacity
 
 abbrev pub popped_off : Buffer ℕ → Buffer ℕ
 popped_off ring = buffer (drop 1 ring.items) ring.capacity
 
+-- the same done to the ring of the context
 abbrev pub pushed : Stacks → ℕ → Stacks
 pushed s link = with_ring s (pushed_on (ring_of s s.context) link)
 
@@ -82,15 +82,15 @@ front_of s = slice_get (ring_of s s.context).items 0
 
 -- the finding of a return that goes elsewhere than to the address that its call pushed
 abbrev pub found_by : Option ℕ → ℕ → ℕ → ℕ → Option Finding
-found_by answer step pc next = option_map (λ (c : Complaint). record { step = step; pc = pc; kind = c.kind; address = c.address }) (return_to answer next)
+found_by answer step pc next = option_map (finding_at step pc) (return_to answer next)
 
 -- with the finding of a return that goes elsewhere than to this address
 abbrev pub misled : Stacks → ℕ → ℕ → ℕ → Stacks
-misled s step pc wanted = record s { found = tallied_with s.found (Some (record { step = step; pc = pc; kind = Return; address = wanted })) }
+misled s step pc wanted = record s { found = tallied_with s.found (Some (finding_at step pc (bad_return wanted))) }
 
 -- the number of pops that answer no push, with one pop more
 abbrev pub unmatched_with : ℕ → Option ℕ → ℕ
-unmatched_with n None = min (n + 1) (2 ^ 64 - 1)
+unmatched_with n None = stopping (n + 1)
 unmatched_with n (Some wanted) = n
 
 -- with the answer to a pop

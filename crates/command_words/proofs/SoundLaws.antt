@@ -9,7 +9,7 @@ use Rattle.std.specs.Result.{result_ok}
 use Rattle.std.specs.Str.{bytes_eq}
 use Rattle.std.proofs.lemmas.Bool.{and_parts, or_parts, ltb-false, cases_Bool}
 use Rattle.std.proofs.lemmas.List.Elements.{All-nil, All-cons, All-contains_itself}
-use Rattle.format_model.specs.ScriptReading.{Broken, is_number, leads_with_zero, value_of, number_at}
+use Rattle.format_model.specs.ScriptReading.{is_number, leads_with_zero, value_of, number_at}
 use Rattle.format_model.specs.ScriptReading as script
 use Rattle.run_events.specs.declared.finding.Kind.{Kind}
 use Rattle.run_settings.specs.Kinds.{EachOnce, are_once, has_kind}

@@ -9,6 +9,7 @@ use Rattle.command_words.specs.declared.table.Setting.{Setting}
 use Rattle.command_words.specs.Table.{place}
 use Rattle.command_words.specs.Roles.{Role, roles, found, has_name, plain_words, ends_open, first_bad}
 
+-- a value, and the number of its word
 abbrev pub seen : Given → List ℕ × ℕ
 seen given = (given.text.now, given.number)
 
@@ -16,6 +17,7 @@ seen given = (given.text.now, given.number)
 abbrev pub held : Draft → Setting → Option (List ℕ × ℕ)
 held draft setting = option_map seen (slice_index_or draft.values (place setting) None)
 
+-- the plain words that are kept
 abbrev pub plain_held : Draft → List (List ℕ)
 plain_held draft = map (λ word. word.now) (take draft.plain_count draft.plain)
 

@@ -9,6 +9,7 @@ use Rattle.run_settings.specs.Patterns.{IsPattern}
 use Rattle.command_words.specs.Jobs.{Job, Run, Record, Analyze, Show, Load, RunJob}
 use Rattle.command_words.specs.declared.value.TheConstants.{LEAST_LOG, MOST_LOG, MOST_THREADS}
 
+-- a number that is within its ends
 abbrev pub IsBetween : ℕ → ℕ → ℕ → Type 0
 IsBetween least most n = (least ≤ n) × (n ≤ most)
 
@@ -31,6 +32,7 @@ pub record IsSoundRun (run : RunJob) : Type 0 where
   pub threads : run.threads ≤ MOST_THREADS
   pub turns : IsPattern (length run.kinds) run.turns
 
+-- the same of every command, by what it has of these
 abbrev pub IsSoundJob : Job → Type 0
 IsSoundJob (Run run) = IsSoundRun run
 IsSoundJob (Record job) =

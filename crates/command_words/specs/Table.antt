@@ -29,6 +29,7 @@ plain_count command = (command_row command).plain
 unfoldable pub command_named : List ℕ → Option CommandName
 command_named word = find (λ command. bytes_eq word (command_row command).word) commands
 
+-- commands by number, so that they can be compared
 abbrev pub number_of : CommandName → ℕ
 number_of Run = 0
 number_of Record = 1

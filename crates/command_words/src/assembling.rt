@@ -21,7 +21,9 @@ use run_settings::{Kinds, Turns};
 
 // The size of RAM in KiB, the most steps and the places of the log where no word says them.
 const DEFAULT_RAM_KIB: u32 = 1024;
+
 const DEFAULT_STEPS: u32 = 10_000_000;
+
 const DEFAULT_LOG: u32 = 1024;
 
 // All analyses.

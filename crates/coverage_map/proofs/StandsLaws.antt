@@ -10,8 +10,8 @@ use Rattle.run_events.specs.declared.finding.Kind.TheVariants.{Cover}
 use Rattle.run_events.specs.Event.{Fits, IsWordInRam}
 use Rattle.analysis_model.specs.Ascending.{with_member, ascending}
 use Rattle.analysis_model.specs.Complaints.{Guest, findings}
-use Rattle.analysis_model.specs.Cover.{executed_pc, executed_pcs, outside}
-use Rattle.analysis_model.proofs.CoverLaws.{findings-cover}
+use Rattle.analysis_model.specs.Cover.{executed_pc, executed_pcs}
+use Rattle.analysis_model.proofs.CoverLaws.{findings-cover, outside}
 use Rattle.finding_tally.specs.Tallied.{Tallied, Tallies, tallied_with}
 use Rattle.finding_tally.proofs.TalliedLaws.{tallied_with-more}
 use Rattle.coverage_map.specs.Coverage.{Covered, guest_now, marked, Stands, with_mark, after}

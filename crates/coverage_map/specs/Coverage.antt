@@ -1,11 +1,14 @@
 -- What coverage keeps, what it stands for, and what it tells.
-use Rattle.std.specs.Prelude.{◌≡◌, ℕ, ◌+◌, ◌-◌, ◌*◌, ◌/◌, Bool, true, false, ◌&&◌, nat_le, nat_lt, List, [], ◌∷◌, length, slice_index_or, slice_set, if◌then◌else◌}
+use Rattle.std.specs.Prelude.{◌≡◌, ℕ, ◌+◌, ◌-◌, ◌*◌, ◌/◌, Bool, true, false, List, [], ◌∷◌, length, slice_index_or, slice_set, if◌then◌else◌}
+use Rattle.std.specs.Option.{option_map}
+use Rattle.list_laws.specs.Least.{is_between}
 use Rattle.memory_map.specs.declared.TheConstants.{RAM_START}
 use Rattle.run_events.specs.declared.event.Event.{Event}
 use Rattle.run_events.specs.declared.event.Event.TheVariants.{Dma, Irq, Trap, Exec}
 use Rattle.run_events.specs.declared.finding.Kind.TheVariants.{Cover}
 use Rattle.analysis_model.specs.Complaints.{Guest, findings}
-use Rattle.analysis_model.specs.Cover.{CodeRange, executed_pcs, is_within, outside_at, runs}
+use Rattle.analysis_model.specs.Cover.{CodeRange, cover_at, executed_pcs, is_within, runs}
+use Rattle.analysis_model.specs.Look.{finding_at}
 use Rattle.analysis_model.specs.Made.{code_made_of, guest_made_of, ranges_made_of}
 use Rattle.finding_tally.specs.Tallied.{Tallied, Tallies, tallied_with}
 use Rattle.coverage_map.specs.declared.area.Area.{Area}
@@ -19,7 +22,7 @@ pub record Covered : Type 0 where
 
 -- an address of this range of code
 abbrev pub holds : Area → ℕ → Bool
-holds area pc = nat_le area.address pc && nat_lt pc (area.address + area.size)
+holds area pc = is_between area.address (area.address + area.size) pc
 
 -- the address and the size of each range of code
 abbrev pub area_numbers : List Area → List ℕ
@@ -69,7 +72,7 @@ with_mark c pc = record c { marks = slice_set c.marks ((pc - RAM_START) / 4) tru
 
 -- with the finding of an event at this pc, where it is in no code
 abbrev pub with_outside : Covered → ℕ → ℕ → Covered
-with_outside c step pc = record c { found = tallied_with c.found (outside_at (code_made_of (make_now c)) step pc) }
+with_outside c step pc = record c { found = tallied_with c.found (option_map (finding_at step pc) (cover_at (code_made_of (make_now c)) pc)) }
 
 -- after one event more
 abbrev pub after : Covered → Event → Covered

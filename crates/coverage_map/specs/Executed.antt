@@ -1,12 +1,13 @@
 -- What a reader knows of the ranges of a run.
-use Rattle.std.specs.Prelude.{◌≡◌, ℕ, ◌+◌, ◌<◌, ◌≤◌, Bool, ◌&&◌, nat_le, nat_lt, List, [], ◌∷◌}
+use Rattle.std.specs.Prelude.{◌≡◌, ℕ, ◌+◌, ◌<◌, ◌≤◌, Bool, List, [], ◌∷◌}
 use Rattle.std.specs.List.{filter_map, list_any}
+use Rattle.list_laws.specs.Least.{is_between}
 use Rattle.run_events.specs.declared.event.Event.{Event}
 use Rattle.analysis_model.specs.Cover.{CodeRange, executed_pc, is_within}
 
 -- the byte at this address is one of the word of four bytes at this pc
 abbrev pub is_byte_of : ℕ → ℕ → Bool
-is_byte_of address pc = nat_le pc address && nat_lt address (pc + 4)
+is_byte_of address pc = is_between pc (pc + 4) address
 
 -- some event executed an instruction with the byte at this address
 abbrev pub is_executed : List Event → ℕ → Bool

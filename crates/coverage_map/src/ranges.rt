@@ -2,7 +2,7 @@
 ghost use Rattle.std.specs.Prelude.{◌≡◌, ◌<◌, ◌≤◌, true, ◌∷◌, length, slice_get};
 ghost use Rattle.analysis_model.specs.Cover.{runs};
 ghost use Rattle.coverage_map.specs.Coverage.{marked};
-ghost use Rattle.coverage_map.specs.Places.{place_address, marked_behind};
+ghost use Rattle.coverage_map.specs.Places.{place_address, marked_from_place};
 
 use memory_map::RAM_START;
 
@@ -47,7 +47,7 @@ fn next_marked(marks: &[bool], start: usize) -> usize
     ensures from { start ≤ result }
     ensures to { result ≤ length marks.now }
     ensures found { result < length marks.now → slice_get marks.now result ≡ Some true }
-    ensures same { marked_behind marks.now start ≡ marked_behind marks.now result }
+    ensures same { marked_from_place marks.now start ≡ marked_from_place marks.now result }
 {
     let mut place = start;
     while place < marks.len() && !marks[place] {
@@ -62,9 +62,9 @@ fn range_end(marks: &[bool], start: usize) -> usize
     requires { slice_get marks.now start ≡ Some true }
     ensures from { start < result }
     ensures to { result ≤ length marks.now }
-    ensures range { runs (marked_behind marks.now start)
+    ensures range { runs (marked_from_place marks.now start)
         ≡ record { from = place_address start; to = place_address result } ∷ runs
-        (marked_behind marks.now result) }
+        (marked_from_place marks.now result) }
 {
     let mut place = start + 1;
     while place < marks.len() && marks[place] {

@@ -1,7 +1,7 @@
 -- What is kept of a list of findings.
-use Rattle.std.specs.Prelude.{◌≡◌, ℕ, ◌+◌, ◌-◌, ◌^◌, min, List, [], ◌∷◌, ◌++◌, take, Option, None, Some, unwrap_or}
+use Rattle.std.specs.Prelude.{◌≡◌, ℕ, ◌+◌, List, [], ◌∷◌, ◌++◌, Option, None, Some, unwrap_or}
 use Rattle.run_events.specs.declared.finding.Finding.{Finding}
-use Rattle.analysis_model.specs.Findings.{first_step, tally, kept}
+use Rattle.analysis_model.specs.Findings.{first_step, kept, stopping, tally}
 
 -- the step of the first finding, the number of all, and the first of them
 pub record Tallied : Type 0 where
@@ -21,8 +21,8 @@ Tallies t found = t ≡ tallied found
 abbrev pub with_finding : Tallied → Finding → Tallied
 with_finding t finding = record {
   first = Some (unwrap_or t.first finding.step);
-  count = min (t.count + 1) (2 ^ 64 - 1);
-  kept = take 64 (t.kept ++ finding ∷ []);
+  count = stopping (t.count + 1);
+  kept = kept (t.kept ++ finding ∷ []);
 }
 
 -- and after one, or none

@@ -5,8 +5,9 @@ use Rattle.std.specs.Option.{option_map_or}
 use Rattle.std.specs.List.{AllByRecursion}
 use Rattle.std.proofs.lemmas.Bool.{lt-ltb, le-ltb, ltb-true, ltb-false, eqb-true, and_parts}
 use Rattle.std.proofs.lemmas.List.{append-nil, nil_from_length}
+use Rattle.memory_map.specs.declared.TheConstants.{MOST_STEPS}
 use Rattle.machine_model.specs.Script.{Span, Entry, What, Serial, Tick, Latency, Script}
-use Rattle.format_model.specs.Script.{Line, Blank, Clock, Sectors, At, most_steps, most_sectors, IsWhat, IsLine, what_text, SpellsWhat, Spells, clocks, spans, entries, last_step, MayStand, StandAfter, SpellEach, period_of, script_of, longer, texts_of, IsScript, hex}
+use Rattle.format_model.specs.Script.{Line, Blank, Clock, Sectors, At, most_sectors, IsWhat, IsLine, what_text, SpellsWhat, Spells, clocks, spans, entries, last_step, MayStand, StandAfter, SpellEach, period_of, script_of, longer, texts_of, IsScript, hex}
 use Rattle.format_model.specs.Then.{◌>>=◌}
 use Rattle.format_model.specs.ScriptReading.{Broken, BadLine, Falling, TooMany, strip, cut, at_space, is_number, number_in, number_at, hex_at, serial_at, tick_at, latency_at, what_at, SoFar, nothing, with_line, clock_at, span_in, sectors_at, entry_in, entry_at, is_blank, line_at, at_line, lines_at, script_so_far, script_in}
 use Rattle.format_model.proofs.ScriptParts.{bind_ok, ok_is, chosen_ok, passed_ok, either_of, taken, strip_found, cut_again, cut_found, decimal_digits, decimal_number, in_again, in_found, number_again, number_found, AreBytes, hex_again, hex_found}
@@ -150,17 +151,17 @@ entry_in_again : (last count at : ℕ) (what : What) → last ≤ at → count <
 unfolding entry_in
 entry_in_again last count at what rises few = rw (le-ltb at last rises, lt-ltb count 65536 few) refl
 
-entry_again : (last count at : ℕ) (what : What) (text : List ℕ) → last ≤ at → count < 65536 → at ≤ most_steps → IsWhat what → SpellsWhat what text → entry_at last count (decimal at ++ 32 ∷ text) ≡ Ok (At (record { at = at; what = what }))
+entry_again : (last count at : ℕ) (what : What) (text : List ℕ) → last ≤ at → count < 65536 → at ≤ MOST_STEPS → IsWhat what → SpellsWhat what text → entry_at last count (decimal at ++ 32 ∷ text) ≡ Ok (At (record { at = at; what = what }))
 unfolding entry_at
 entry_again last count at what text rises few high is spelled =
-    rw (cut_again (decimal at) text (decimal_digits at (omega arith)), decimal_number at (omega arith), what_again what text is spelled, in_again 0 most_steps at (omega arith) high (omega arith), entry_in_again last count at what rises few) refl
+    rw (cut_again (decimal at) text (decimal_digits at (omega arith)), decimal_number at (omega arith), what_again what text is spelled, in_again 0 MOST_STEPS at (omega arith) high (omega arith), entry_in_again last count at what rises few) refl
 
 line_again : (before : List Line) (line : Line) (text : List ℕ) → Spells line text → IsLine line → MayStand before line → line_at (heard before) text ≡ Ok line
 unfolding line_at clock_at
 line_again before Blank text (inl e) is may = rw e refl
 line_again before Blank text (inr f) is may = rw f.1 refl
 line_again before (Clock period) text e is may =
-    rw (e, may.0, may.1, number_again 1 most_steps period is.0 is.1 (omega (arith, is.1))) refl
+    rw (e, may.0, may.1, number_again 1 MOST_STEPS period is.0 is.1 (omega (arith, is.1))) refl
 line_again before (Sectors span) text e is may =
     rw (e, may.0, sectors_again span.first span.last (length (spans before)) is.0 is.1 may.1) refl
 line_again before (At entry) text f is may =
@@ -181,10 +182,10 @@ no_clock (p ∷ periods) e = absurd cc
 clock_found : (before : List Line) (text rest : List ℕ) (line : Line) → text ≡ codes "clock " ++ rest → clock_at (is_none (head_of (clocks before)) && eqb (length (entries before)) 0) rest ≡ Ok line → Says before text line
 unfolding clock_at
 clock_found before text rest line is_text e =
-    let chosen = chosen_ok (is_none (head_of (clocks before)) && eqb (length (entries before)) 0) (number_at 1 most_steps rest >>= λ period. Ok (Clock period)) BadLine line e in
+    let chosen = chosen_ok (is_none (head_of (clocks before)) && eqb (length (entries before)) 0) (number_at 1 MOST_STEPS rest >>= λ period. Ok (Clock period)) BadLine line e in
     let may = and_parts (is_none (head_of (clocks before))) (eqb (length (entries before)) 0) chosen.0 in
-    let n = bind_ok (number_at 1 most_steps rest) (λ period. Ok (Clock period)) line chosen.1 in
-    let found = number_found 1 most_steps n.0 rest (omega arith) n.1 in
+    let n = bind_ok (number_at 1 MOST_STEPS rest) (λ period. Ok (Clock period)) line chosen.1 in
+    let found = number_found 1 MOST_STEPS n.0 rest (omega arith) n.1 in
     subst (λ (l : Line). Says before text l) (ok_is (Clock n.0) line n.2)
     (is_text ∙ ap (λ (x : List ℕ). codes "clock " ++ x) found.spelled, (found.low, found.high), (no_clock (clocks before) may.0, nil_from_length (entries before) (eqb-true (length (entries before)) 0 may.1)))
 
@@ -235,16 +236,16 @@ unfolding entry_at
 entry_found before text rest line fits is_text e =
     let last = last_step (entries before) in
     let count = length (entries before) in
-    let w = bind_ok (at_space rest) (λ words. cond (is_number words.0) (what_at words.1 >>= λ arriving. number_in 0 most_steps words.0 >>= λ step. entry_in last count step arriving) (Err BadLine)) line e in
+    let w = bind_ok (at_space rest) (λ words. cond (is_number words.0) (what_at words.1 >>= λ arriving. number_in 0 MOST_STEPS words.0 >>= λ step. entry_in last count step arriving) (Err BadLine)) line e in
     let words = w.0 in
-    let chosen = chosen_ok (is_number words.0) (what_at words.1 >>= λ arriving. number_in 0 most_steps words.0 >>= λ step. entry_in last count step arriving) BadLine line w.2 in
-    let arriving = bind_ok (what_at words.1) (λ arriving. number_in 0 most_steps words.0 >>= λ step. entry_in last count step arriving) line chosen.1 in
-    let step = bind_ok (number_in 0 most_steps words.0) (λ step. entry_in last count step arriving.0) line arriving.2 in
+    let chosen = chosen_ok (is_number words.0) (what_at words.1 >>= λ arriving. number_in 0 MOST_STEPS words.0 >>= λ step. entry_in last count step arriving) BadLine line w.2 in
+    let arriving = bind_ok (what_at words.1) (λ arriving. number_in 0 MOST_STEPS words.0 >>= λ step. entry_in last count step arriving) line chosen.1 in
+    let step = bind_ok (number_in 0 MOST_STEPS words.0) (λ step. entry_in last count step arriving.0) line arriving.2 in
     let stands = entry_in_found before step.0 arriving.0 line step.2 in
     let parts : rest ≡ words.0 ++ 32 ∷ words.1 = cut_found 32 rest words (space_found rest words w.1) in
     let text_fits : AreBytes words.1 = (bytes_after words.0 (32 ∷ words.1) (subst AreBytes parts fits)).1 in
     let told = what_found words.1 arriving.0 text_fits arriving.1 in
-    let number = in_found 0 most_steps step.0 words.0 (omega arith) chosen.0 step.1 in
+    let number = in_found 0 MOST_STEPS step.0 words.0 (omega arith) chosen.0 step.1 in
     let spelled : rest ≡ decimal step.0 ++ 32 ∷ words.1 = parts ∙ ap (λ (x : List ℕ). x ++ 32 ∷ words.1) number.spelled in
     subst (λ (l : Line). Says before text l) stands.0
     ((words.1, is_text ∙ ap (λ (x : List ℕ). codes "at " ++ x) spelled, told.0), (number.high, told.1), stands.1)

@@ -3,6 +3,7 @@
 use Rattle.std.specs.Prelude.{◌≡◌, ℕ, zero, suc, ◌+◌, ◌*◌, ◌%◌, ◌≤◌, Bool, false, not, ◌&&◌, ◌||◌, ◌==◌, nat_lt, nat_le, if◌then◌else◌, List, [], ◌∷◌, ◌++◌, length, map, take, drop, slice_index, Option, Some, None, Result, Ok, Err}
 use Rattle.std.specs.Int.{w32, from_le_bytes}
 use Rattle.std.specs.List.{AllByRecursion}
+use Rattle.memory_map.specs.declared.TheConstants.{GRAIN}
 use Rattle.memory_map.specs.Ram.{in_ram, InRam}
 use Rattle.machine_model.specs.Image.{Segment, Image, IsLoadable, flat_image}
 use Rattle.format_model.specs.Then.{◌>>=◌}
@@ -112,7 +113,7 @@ overlap_after before (load ∷ loads) =
 unfoldable pub image_at : List ℕ → ℕ → List Load → Result Image Fault
 image_at file size loads =
     if length loads == 0 then Err NoSegment
-    else if not (in_ram size (field_at file 24 4) 1 && field_at file 24 4 % 4 == 0)
+    else if not (in_ram size (field_at file 24 4) 1 && field_at file 24 4 % GRAIN == 0)
     then Err EntryOutside
     else Ok (record { entry = field_at file 24 4; segments = map (λ load. load.segment) loads })
 
@@ -129,10 +130,6 @@ image_in ram_kib file =
     else if nat_lt (1024 * ram_kib) (length file) then Err (SegmentOutside 0)
     else Ok (flat_image file)
 
--- the image was read for a RAM of this size
-abbrev pub WasRead : ℕ → Image → Type 0
-WasRead ram_kib image = (file : List ℕ) × (image_in ram_kib file ≡ Ok image)
-
 -- a segment stands in a RAM of this many bytes, with the bytes that the file gives for it
 pub record SegmentFits (size : ℕ) (segment : Segment) : Type 0 where
   pub within : InRam size segment.address segment.size
@@ -145,10 +142,10 @@ ApartAfter before (segment ∷ segments) =
     AllByRecursion (λ other. share other segment ≡ false) before
     × ApartAfter (before ++ segment ∷ []) segments
 
--- an image fits a RAM of this many bytes: its segments stand there, apart, and it starts there, at a multiple of 4
+-- an image fits a RAM of this many bytes: its segments stand there, apart, and it starts there, where an instruction can begin
 pub record ImageFits (size : ℕ) (image : Image) : Type 0 where
   pub segments : AllByRecursion (SegmentFits size) image.segments
   pub apart : ApartAfter [] image.segments
   pub loadable : IsLoadable size image.segments
   pub entry : InRam size image.entry 1
-  pub aligned : image.entry % 4 ≡ 0
+  pub aligned : image.entry % GRAIN ≡ 0

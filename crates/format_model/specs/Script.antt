@@ -2,7 +2,8 @@
 use Rattle.memory_map.specs.declared.TheConstants.{MOST_STEPS}
 use Rattle.std.specs.Prelude.{◌≡◌, ℕ, ◌+◌, ◌/◌, ◌%◌, ◌<◌, ◌≤◌, ◌⊎◌, ◌==◌, nat_lt, if◌then◌else◌, List, [], ◌∷◌, ◌++◌, length, codes, decimal}
 use Rattle.std.specs.List.{flat_map, AllByRecursion}
-use Rattle.machine_model.specs.Script.{Span, Entry, Script}
+use Rattle.run_events.specs.Record.{IsMark}
+use Rattle.machine_model.specs.Script.{Span, Entry, Script, default_clock}
 use Rattle.machine_model.specs.Script as model
 
 -- a line of a script: one that says nothing, or what it says
@@ -12,26 +13,23 @@ pub data Line : Type 0 where
   Sectors : (span : Span) → Line
   At : (entry : Entry) → Line
 
--- the largest number of a step in a script, and of a sector
-abbrev pub most_steps : ℕ
-most_steps = MOST_STEPS
-
+-- the largest number of a sector in a script
 abbrev pub most_sectors : ℕ
 most_sectors = 32767
 
--- what may arrive: one byte or more, each with a mark of 0 or 1; ticks; a latency
+-- what may arrive: one byte or more, each with a mark; ticks; a latency
 abbrev pub IsWhat : model.What → Type 0
 IsWhat (model.Serial bytes mark) =
-    (0 < length bytes) × AllByRecursion (λ b. b < 256) bytes × (mark ≤ 1)
+    (0 < length bytes) × AllByRecursion (λ b. b < 256) bytes × IsMark mark
 IsWhat (model.Tick count) = (1 ≤ count) × (count ≤ 4294967295)
 IsWhat (model.Latency steps) = (1 ≤ steps) × (steps ≤ 1000000)
 
 -- what a line may say
 abbrev pub IsLine : Line → Type 0
 IsLine Blank = Unit {0}
-IsLine (Clock period) = (1 ≤ period) × (period ≤ most_steps)
+IsLine (Clock period) = (1 ≤ period) × (period ≤ MOST_STEPS)
 IsLine (Sectors span) = (span.first ≤ span.last) × (span.last ≤ most_sectors)
-IsLine (At entry) = (entry.at ≤ most_steps) × IsWhat entry.what
+IsLine (At entry) = (entry.at ≤ MOST_STEPS) × IsWhat entry.what
 
 -- a digit of lower case hexadecimal
 abbrev pub hex_digit : ℕ → ℕ
@@ -119,9 +117,9 @@ SpellEach [] (text ∷ texts) = ⊥
 SpellEach (line ∷ lines) [] = ⊥
 SpellEach (line ∷ lines) (text ∷ texts) = Spells line text × SpellEach lines texts
 
--- the timer's period: the clock's, or 100 where no line gives it
+-- the timer's period: the clock's, if a line gives it
 abbrev pub period_of : List ℕ → ℕ
-period_of [] = 100
+period_of [] = default_clock
 period_of (period ∷ others) = period
 
 abbrev pub script_of : List Line → Script

@@ -3,10 +3,11 @@ use Rattle.std.specs.Prelude.{ℕ, ◌+◌, ◌-◌, ◌*◌, ◌==◌, Bool, tr
 use Rattle.std.specs.Option.{option_map_or}
 use Rattle.std.specs.Char.{is_ascii_digit}
 use Rattle.std.specs.List.{list_all}
-use Rattle.machine_model.specs.Script.{Span, Entry, Script, What}
+use Rattle.memory_map.specs.declared.TheConstants.{MOST_STEPS}
+use Rattle.machine_model.specs.Script.{Span, Entry, Script, What, default_clock}
 use Rattle.machine_model.specs.Script as model
 use Rattle.format_model.specs.Then.{◌>>=◌}
-use Rattle.format_model.specs.Script.{Line, Blank, Clock, Sectors, At, most_steps, most_sectors, last_step, texts_of}
+use Rattle.format_model.specs.Script.{Line, Blank, Clock, Sectors, At, most_sectors, last_step, texts_of}
 
 -- what may be wrong with a line, in the order in which it is told
 pub data Broken : Type 0 where
@@ -34,6 +35,7 @@ at_space text = ok_or (cut 32 text) BadLine
 abbrev pub is_number : List ℕ → Bool
 is_number text = nat_lt 0 (length text) && list_all is_ascii_digit text
 
+-- more digits than one, of which the first is 0
 abbrev pub leads_with_zero : List ℕ → Bool
 leads_with_zero digits = nat_lt 1 (length digits) && slice_index digits 0 == 48
 
@@ -125,7 +127,7 @@ with_line so_far (At entry) = record so_far { entries = so_far.entries ++ entry 
 -- a clock, where one may stand
 unfoldable pub clock_at : Bool → List ℕ → Result Line Broken
 clock_at may_stand text =
-    if may_stand then (number_at 1 most_steps text >>= λ period. Ok (Clock period)) else Err BadLine
+    if may_stand then (number_at 1 MOST_STEPS text >>= λ period. Ok (Clock period)) else Err BadLine
 
 -- the numbers of a span: a last one below the first is out of range
 unfoldable pub span_in : List ℕ → List ℕ → Result Span Broken
@@ -154,10 +156,11 @@ unfoldable pub entry_at : ℕ → ℕ → List ℕ → Result Line Broken
 entry_at last count text = do
   words ← at_space text
   if is_number words.0
-      then (what_at words.1 >>= λ arriving. number_in 0 most_steps words.0
+      then (what_at words.1 >>= λ arriving. number_in 0 MOST_STEPS words.0
       >>= λ step. entry_in last count step arriving)
       else Err BadLine
 
+-- the line says nothing
 abbrev pub is_blank : List ℕ → Bool
 is_blank [] = true
 is_blank (b ∷ bs) = b == 35
@@ -182,9 +185,10 @@ lines_at so_far number (text ∷ texts) =
     at_line number (line_at so_far text)
     >>= λ line. lines_at (with_line so_far line) (number + 1) texts
 
+-- the script of what all lines have said
 abbrev pub script_so_far : SoFar → Script
 script_so_far so_far = record {
-  clock = option_map_or (λ period. period) so_far.clock 100;
+  clock = option_map_or (λ period. period) so_far.clock default_clock;
   sectors = so_far.sectors;
   entries = so_far.entries;
 }

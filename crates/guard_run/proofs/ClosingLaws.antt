@@ -106,6 +106,7 @@ module _ (job : Job) (places : List ℕ) (closing : Closing) (are : AreReplicas 
         closes =
             closes (take count (items run)) (take count (log run)) _ prefix
             (shown_by_steps hart (λ (s : State). s.step) hart_counts (first_state job) run (take count (log run)) refl (job_runs job marked) (take_IsPrefix count (log run))) cut.closes;
+        issued = cut.closes.issued;
         released = cut.released;
         there = omega (arith, cut.there, ap length (course_let_out job places are.required count));
       }

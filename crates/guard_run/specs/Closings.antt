@@ -5,7 +5,7 @@ use Rattle.run_events.specs.declared.event.Event.{Event}
 use Rattle.run_events.specs.declared.finding.Kind.{Kind}
 use Rattle.run_events.specs.declared.record.Record.{Record}
 use Rattle.run_events.specs.Record.{dmas_at, reach}
-use Rattle.any_machine.specs.Log.{log}
+use Rattle.any_machine.specs.Log.{bytes_of, items, log}
 use Rattle.any_machine.specs.Run.{events_before, words_before}
 use Rattle.analysis_model.specs.declared.facts.RunFacts.{RunFacts}
 use Rattle.analysis_model.specs.Made.{make_of}
@@ -47,7 +47,11 @@ replicas_of closing = turns.followers_of closing.over
 abbrev pub posted_of : Closing → ℕ → Verdict
 posted_of closing replica = turns.posted_of closing.over replica
 
--- how many bytes went out by puts that did not fail, and the steps of those that the gate still holds
+-- how many bytes were issued to the gate, how many of them went out by puts that did not fail, and the steps of those that
+-- it still holds
+abbrev pub issued_of : Closing → ℕ
+issued_of closing = turns.issued_of closing.over
+
 abbrev pub released_of : Closing → ℕ
 released_of closing = turns.released_of closing.over
 
@@ -59,9 +63,9 @@ abbrev pub facts_with : Closing → Ending → RunFacts
 facts_with closing ending = record {
   steps = ending.steps;
   end = ending.cause;
-  issued = turns.issued_of closing.over;
-  released = turns.released_of closing.over;
-  items = turns.appended_of closing.over;
+  issued = issued_of closing;
+  released = released_of closing;
+  items = appended_of closing;
 }
 
 abbrev pub facts_at : Closing → Option RunFacts
@@ -104,14 +108,15 @@ pub record IsWholeRun (job : Job) (closing : Closing) : Type 0 where
 
 -- the events that some of a job's records reach: those of the steps below, and the words of the step that follows whose
 -- records are among them
-abbrev pub events_in : Job → List Record → List Event
-events_in job items = events_before (reach items) (events job) ++ take (dmas_at (reach items) (reverse items)) (words_before (reach items) (events job))
+abbrev pub events_reached : Job → List Record → List Event
+events_reached job items = events_before (reach items) (events job) ++ take (dmas_at (reach items) (reverse items)) (words_before (reach items) (events job))
 
 -- The closing of a run that a failed put has ended: its list has the first so many records of the job's log, each analysis
--- stands for the events that they reach, and the gate counts no more bytes as released than went out, which are no more
--- than are let out of these records.
+-- stands for the events that they reach, the bytes that they let go were issued to the gate, and it counts no more of them
+-- as released than went out, which are no more than are let out of these records.
 pub record IsCutRun (job : Job) (count put : ℕ) (closing : Closing) : Type 0 where
   pub within : count ≤ length (log (finished job))
-  pub closes : Closes job (take count (log (finished job))) (events_in job (take count (log (finished job)))) closing
+  pub closes : Closes job (take count (log (finished job))) (events_reached job (take count (log (finished job)))) closing
+  pub issued : issued_of closing ≡ length (bytes_of (take count (items (finished job))))
   pub released : released_of closing ≤ put
   pub there : put ≤ length (released_in job count)

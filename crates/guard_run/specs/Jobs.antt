@@ -1,11 +1,10 @@
 -- The job that a run is asked for, and what the run is to come to.
-use Rattle.memory_map.specs.declared.TheConstants.{LEAST_RAM_KIB, MOST_DISK_BYTES, MOST_RAM_KIB, MOST_STEPS}
-use Rattle.std.specs.Prelude.{◌≡◌, ℕ, ◌*◌, ◌%◌, ◌^◌, ◌≤◌, IsTrue, List, length, map, slice_get, Some}
+use Rattle.memory_map.specs.declared.TheConstants.{GRAIN, LEAST_RAM_KIB, MOST_DISK_BYTES, MOST_RAM_KIB, MOST_STEPS}
+use Rattle.std.specs.Prelude.{◌≡◌, ℕ, ◌*◌, ◌%◌, ◌≤◌, IsTrue, List, length, map, slice_get, Some}
 use Rattle.std.specs.List.{AllByRecursion, AllZip, Contains}
 use Rattle.run_events.specs.declared.finding.Kind.{Kind}
 use Rattle.any_machine.specs.Log.{items}
 use Rattle.gate_core.specs.Hub.{is_cap}
-use Rattle.hart_model.specs.Fetch.{grain}
 use Rattle.machine_model.specs.Board.{AreMarked, IsPlayable}
 use Rattle.machine_model.specs.Image.{Image, IsLoadable}
 use Rattle.machine_model.specs.Script.{Script}
@@ -37,7 +36,7 @@ pub record IsRunnable (job : Job) : Type 0 where
   pub some : 1 ≤ length job.kinds
   pub required : AllByRecursion (Contains job.kinds) job.required
   pub loadable : IsLoadable (1024 * job.ram_kib) job.image.segments
-  pub aligned : job.image.entry % grain ≡ 0
+  pub aligned : job.image.entry % GRAIN ≡ 0
   pub playable : IsPlayable job.script
   pub marked : AreMarked job.script.entries
   pub disk : length job.disk ≤ MOST_DISK_BYTES

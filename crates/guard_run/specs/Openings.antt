@@ -33,6 +33,7 @@ pub record IsOpened (job : Job) (parts : Parts) : Type 0 where
   pub replicas : AreReplicas job places (replicas_in parts)
   pub opened : before.IsOpened recording replicas_follow (course_of job places) parts.run
 
+-- it is the run of some job
 pub record IsOpenedRun (parts : Parts) : Type 0 where
   pub of : Job
   pub opened : IsOpened of parts

@@ -19,6 +19,7 @@ pub record Make : Type 0 where
   pub ram_kib : ℕ
   pub kind : Kind
 
+-- what a replica was made of, and its analysis
 abbrev pub make_now : Replica → Make
 make_now replica = record { image = replica.image; ram_kib = replica.ram_kib; kind = replica.kind }
 

@@ -1,11 +1,10 @@
 //! The parts of a run.
-ghost use Rattle.memory_map.specs.declared.TheConstants.{LEAST_RAM_KIB, MOST_RAM_KIB};
+ghost use Rattle.memory_map.specs.declared.TheConstants.{GRAIN, LEAST_RAM_KIB, MOST_RAM_KIB};
 ghost use Rattle.std.specs.Prelude.{◌≡◌, ◌*◌, ◌%◌, ◌≤◌, IfOk, Some, length, slice_get};
 ghost use Rattle.std.specs.List.{AllByRecursion, Contains};
 ghost use Rattle.guard_run.specs.Jobs.{ArePlaces, IsRunnable, job_of};
 ghost use Rattle.guard_run.specs.Openings.{IsOpened};
 ghost use Rattle.guard_run.specs.Replicas.{AreFresh};
-ghost use Rattle.hart_model.specs.Fetch.{grain};
 ghost use Rattle.machine_model.specs.Image.{IsLoadable};
 
 use crate::{Replica, RunJob};
@@ -51,7 +50,7 @@ fn replicas_of(alloc: Global, job: &RunJob, image: &Image) -> Result<Vec<Replica
     requires least { LEAST_RAM_KIB ≤ job.now.ram_kib }
     requires most { job.now.ram_kib ≤ MOST_RAM_KIB }
     requires loadable { IsLoadable (1024 * job.now.ram_kib) image.now.segments }
-    requires aligned { image.now.entry % grain ≡ 0 }
+    requires aligned { image.now.entry % GRAIN ≡ 0 }
     ensures fresh { IfOk result (λ replicas.
         AreFresh image.now job.now.ram_kib job.now.kinds replicas.items) }
     ensures few { length job.now.kinds ≤ 5 }

@@ -1,10 +1,9 @@
 //! A replica: an analysis of a run, and the replay that shows it what the records say.
-ghost use Rattle.memory_map.specs.declared.TheConstants.{LEAST_RAM_KIB, MOST_RAM_KIB};
+ghost use Rattle.memory_map.specs.declared.TheConstants.{GRAIN, LEAST_RAM_KIB, MOST_RAM_KIB};
 ghost use Rattle.std.specs.Prelude.{◌≡◌, ◌*◌, ◌%◌, ◌≤◌, ◌++◌, ◌∷◌, IfOk, List};
 ghost use Rattle.any_machine.specs.Replay.{outcome, shown_by};
 ghost use Rattle.analysis_set.specs.Analysis.{HasSeen, kib_of, made_of};
 ghost use Rattle.guard_run.specs.Verdicts.{verdict_from};
-ghost use Rattle.hart_model.specs.Fetch.{grain};
 ghost use Rattle.hart_model.specs.Machine.{hart};
 ghost use Rattle.hart_model.specs.State.{State};
 ghost use Rattle.machine_model.specs.Image.{IsLoadable};
@@ -45,7 +44,7 @@ impl Replica {
         requires least { LEAST_RAM_KIB ≤ ram_kib }
         requires most { ram_kib ≤ MOST_RAM_KIB }
         requires loadable { IsLoadable (1024 * ram_kib) image.now.segments }
-        requires aligned { image.now.entry % grain ≡ 0 }
+        requires aligned { image.now.entry % GRAIN ≡ 0 }
         ensures { IfOk result (λ replica. IsFresh image.now ram_kib kind replica) }
     {
         Ok(Replica {

@@ -18,7 +18,8 @@ use Rattle.rv_decode.specs.declared.operations.LoadOp.{LoadOp}
 use Rattle.rv_decode.specs.declared.operations.StoreOp.{StoreOp}
 use Rattle.hart_model.specs.Effect
 use Rattle.hart_model.specs.Effect.{Outcome, Does, Raises}
-use Rattle.hart_model.specs.Fetch.{grain, Fetch, Found, Outside, fetched}
+use Rattle.memory_map.specs.declared.TheConstants.{GRAIN}
+use Rattle.hart_model.specs.Fetch.{Fetch, Found, Outside, fetched}
 use Rattle.hart_model.specs.Needs.{need_at, need_by}
 use Rattle.hart_model.specs.Operations.{load_width, store_width, is_taken}
 use Rattle.hart_model.specs.State.{State, register}
@@ -65,7 +66,7 @@ module _ (s : State) (size : ℕ) where
   atomic_none amo.Maxu rd value address = accessing_none address 4 6 _ _ refl refl
 
   jumping_none : (rd target : ℕ) → needed (Effect.jumping s size rd target) ≡ Nothing
-  jumping_none rd target = none (nat_eq (target % grain) 0) _ _ refl refl
+  jumping_none rd target = none (nat_eq (target % GRAIN) 0) _ _ refl refl
 
   storing_none : (op : StoreOp) (value address : ℕ) → needed (Effect.storing s size op value address) ≡ Nothing
   storing_none op value address = accessing_none address (store_width op) 6 _ _ refl (none (is_device address) _ _ refl refl)

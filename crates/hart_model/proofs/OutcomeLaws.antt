@@ -21,7 +21,7 @@ use Rattle.rv_decode.specs.declared.operations.StoreOp.{StoreOp}
 use Rattle.rv_decode.specs.declared.operations.StoreOp.TheVariants as store
 use Rattle.hart_model.specs.Effect
 use Rattle.hart_model.specs.Effect.{Effect, Outcome, Does, Raises}
-use Rattle.hart_model.specs.Fetch.{grain}
+use Rattle.memory_map.specs.declared.TheConstants.{GRAIN}
 use Rattle.hart_model.specs.Aligned.{IsAligned}
 use Rattle.hart_model.specs.Operations.{sum, load_width, store_width, csr_result, writes_csr, is_taken}
 use Rattle.hart_model.specs.State.{State, register}
@@ -42,8 +42,8 @@ AccessInside bytes (access.Swap address old new) = IsInside bytes address 4
 
 -- what an effect on a state keeps, where the instruction's size is a multiple of the grain
 pub record Keeps (s : State) (size : ℕ) (e : Effect) : Type 0 where
-  pub next : IsAligned s → size % grain ≡ 0 → e.next % grain ≡ 0
-  pub mepc : IsAligned s → e.csrs.mepc % grain ≡ 0
+  pub next : IsAligned s → size % GRAIN ≡ 0 → e.next % GRAIN ≡ 0
+  pub mepc : IsAligned s → e.csrs.mepc % GRAIN ≡ 0
   pub data_inside : AccessInside (length s.ram) e.access
 
 abbrev pub OutcomeKeeps : State → ℕ → Outcome → Type 0
@@ -56,7 +56,7 @@ choice P true x y holds fails = holds refl
 choice P false x y holds fails = fails refl
 
 -- the next instruction begins a multiple of the grain later
-pub next_aligned : (pc size : ℕ) → pc % grain ≡ 0 → size % grain ≡ 0 → sum pc size % grain ≡ 0
+pub next_aligned : (pc size : ℕ) → pc % GRAIN ≡ 0 → size % GRAIN ≡ 0 → sum pc size % GRAIN ≡ 0
 next_aligned pc size here whole = omega arith
 
 load_whole : (op : LoadOp) → IsWidth (load_width op)
@@ -77,7 +77,7 @@ module _ (s : State) (size : ℕ) where
 
   jumping_keeps : (rd target : ℕ) → OutcomeKeeps s size (Effect.jumping s size rd target)
   jumping_keeps rd target =
-      choice (OutcomeKeeps s size) (nat_eq (target % grain) 0) _ _ (λ whole_target. record { next = λ a whole. grind (arith, whole_target); mepc = λ a. a.mepc; data_inside = tt }) (λ other. tt)
+      choice (OutcomeKeeps s size) (nat_eq (target % GRAIN) 0) _ _ (λ whole_target. record { next = λ a whole. grind (arith, whole_target); mepc = λ a. a.mepc; data_inside = tt }) (λ other. tt)
 
   accessing_keeps : (address width misaligned : ℕ) (x y : Outcome) → (InRam (length s.ram) address width → OutcomeKeeps s size x) → OutcomeKeeps s size y → OutcomeKeeps s size (Effect.accessing s address width misaligned x y)
   accessing_keeps address width misaligned x y inside outside =
@@ -127,7 +127,7 @@ module _ (s : State) (size : ℕ) where
   atomic_keeps amo.Minu rd value address = swapping_keeps amo.Minu rd value address
   atomic_keeps amo.Maxu rd value address = swapping_keeps amo.Maxu rd value address
 
-  kept_keeps : (word rd old : ℕ) (kept : Option Csrs) → ((c : Csrs) → kept ≡ Some c → IsAligned s → c.mepc % grain ≡ 0) → OutcomeKeeps s size (Effect.csr_kept s size word rd old kept)
+  kept_keeps : (word rd old : ℕ) (kept : Option Csrs) → ((c : Csrs) → kept ≡ Some c → IsAligned s → c.mepc % GRAIN ≡ 0) → OutcomeKeeps s size (Effect.csr_kept s size word rd old kept)
   kept_keeps word rd old None fine = tt
   kept_keeps word rd old (Some c) fine = record { next = λ a whole. next_aligned s.pc size a.pc whole; mepc = fine c refl; data_inside = tt }
 

@@ -14,7 +14,8 @@ use Rattle.hart_model.proofs.OutcomeLaws.{OutcomeKeeps, AccessInside, outcome_ke
 use Rattle.hart_model.proofs.StepCases.{each_step}
 use Rattle.hart_model.specs.Aligned.{IsAligned}
 use Rattle.hart_model.specs.Effect.{Outcome, Does, Raises}
-use Rattle.hart_model.specs.Fetch.{Fetched, grain}
+use Rattle.memory_map.specs.declared.TheConstants.{GRAIN}
+use Rattle.hart_model.specs.Fetch.{Fetched}
 use Rattle.hart_model.specs.State.{State}
 use Rattle.hart_model.specs.Step.{cpu, outcome, step_by, ram_after}
 
@@ -31,7 +32,7 @@ pub record StepKeeps (s : State) (result : Event × State) : Type 0 where
   pub aligned : IsAligned s → IsAligned result.1
   pub sized : length result.1.ram ≡ length s.ram
 
-by_keeps : (s : State) (size word : ℕ) (o : Outcome) → size % grain ≡ 0 → OutcomeKeeps s size o → StepKeeps s (step_by s word o)
+by_keeps : (s : State) (size word : ℕ) (o : Outcome) → size % GRAIN ≡ 0 → OutcomeKeeps s size o → StepKeeps s (step_by s word o)
 unfolding step_by
 by_keeps s size word (Does e) whole keeps =
     record { aligned = λ a. record { pc = keeps.next a whole; mepc = keeps.mepc a }; sized = size_after s e.access keeps.data_inside }

@@ -13,7 +13,7 @@ use Rattle.rv_decode.specs.declared.operations.CsrOp.{CsrOp}
 use Rattle.rv_decode.specs.declared.operations.LoadOp.{LoadOp}
 use Rattle.rv_decode.specs.declared.operations.StoreOp.{StoreOp}
 use Rattle.rv_memory.specs.Ram.{loaded}
-use Rattle.hart_model.specs.Fetch.{grain}
+use Rattle.memory_map.specs.declared.TheConstants.{GRAIN}
 use Rattle.hart_model.specs.Operations.{sum, load_width, load_result, store_width, swapped, takes_register, reads_csr, writes_csr, csr_result}
 use Rattle.hart_model.specs.State.{State, register}
 
@@ -51,7 +51,7 @@ writing s size rd value = record (going_on s size) { rd = rd; value = value }
 -- (Unprivileged manual, 2.5.)
 abbrev pub jumping : State → ℕ → (rd target : ℕ) → Outcome
 jumping s size rd target =
-    if target % grain == 0 then Does (record (writing s size rd (sum s.pc size)) { next = target })
+    if target % GRAIN == 0 then Does (record (writing s size rd (sum s.pc size)) { next = target })
     else Raises 0 target
 
 -- the low bytes of a word, extended by zero

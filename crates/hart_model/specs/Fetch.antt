@@ -1,7 +1,6 @@
 -- What stands at the pc. (Unprivileged manual, 1.5.)
 use Rattle.std.specs.Prelude.{ℕ, List, length, Option, if◌then◌else◌}
 use Rattle.memory_map.specs.Ram.{in_ram}
-use Rattle.memory_map.specs.declared.TheConstants.{GRAIN}
 use Rattle.rv_decode.specs.declared.instruction.Instr.{Instr}
 use Rattle.rv_decode.specs.Listing.{instruction}
 use Rattle.rv_memory.specs.Ram.{loaded}
@@ -16,10 +15,6 @@ pub record Fetched : Type 0 where
 pub data Fetch : Type 0 where
   Found : Fetched → Fetch
   Outside : (address : ℕ) → Fetch
-
--- instructions begin at multiples of this many bytes
-abbrev pub grain : ℕ
-grain = GRAIN
 
 -- the fetch at a pc: each instruction has four bytes
 abbrev pub fetched : List ℕ → ℕ → Fetch

@@ -31,6 +31,7 @@ finished job = run job.image job.script job.disk job.ram_kib job.limit
 abbrev pub events : Job → List Event
 events job = events_of (finished job).turns
 
+-- what its findings depend on beside the events
 abbrev pub guest : Job → Guest
 guest job = guest_of job.image job.ram_kib
 

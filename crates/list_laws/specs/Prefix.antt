@@ -1,4 +1,4 @@
--- Fronts of lists.
+-- Prefixes of lists.
 use Rattle.std.specs.Prelude.{◌≡◌, List, ◌++◌}
 
 -- the whole begins with this prefix, which may be empty or the whole

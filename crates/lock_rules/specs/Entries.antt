@@ -10,6 +10,7 @@ use Rattle.lock_rules.specs.declared.guard.Guard.{Guard}
 abbrev pub numbers : List Lock → List ℕ
 numbers locks = map (λ lock. lock.number) locks
 
+-- the context that holds a lock that may be there
 abbrev pub holder_in : Option Lock → Option ℕ
 holder_in None = None
 holder_in (Some lock) = lock.holder

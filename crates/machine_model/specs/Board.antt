@@ -157,7 +157,11 @@ offset_for script step value = (value + (2 ^ 64 - elapsed script step % 2 ^ 64))
 
 -- THE DISK
 
--- the latency in force at a step: that of the last entry due that sets it, and 1000 before one does
+-- the latency before an entry sets one
+abbrev pub first_latency : ℕ
+first_latency = 1000
+
+-- the latency in force at a step: that of the last entry due that sets it, or the first one
 abbrev pub latency_by : What → Option ℕ
 latency_by (Serial bytes mark) = None
 latency_by (Tick count) = None
@@ -171,7 +175,7 @@ last_or before [] = before
 last_or before (latency ∷ later) = last_or latency later
 
 abbrev pub latency : Script → ℕ → ℕ
-latency script step = last_or 1000 (filter_map (latency_at step) script.entries)
+latency script step = last_or first_latency (filter_map (latency_at step) script.entries)
 
 -- a sector has 512 bytes, which are 128 words
 abbrev pub sector_count : List ℕ → ℕ
@@ -281,9 +285,12 @@ board_lines script step b =
 abbrev pub unmarked : ℕ → Supplied
 unmarked value = record { value = value; mark = 0 }
 
+abbrev pub given : Arrival → Supplied
+given byte = record { value = byte.value; mark = byte.mark }
+
 abbrev pub byte_given : Option Arrival → Supplied
 byte_given None = unmarked 0
-byte_given (Some byte) = record { value = byte.value; mark = byte.mark }
+byte_given (Some byte) = given byte
 
 abbrev pub given_by : Script → ℕ → BoardState → Register → Supplied
 given_by script step b CompareLow = unmarked (low_half b.compare)

@@ -11,6 +11,7 @@ pub record Segment : Type 0 where
   pub size : ℕ
   pub executable : Bool
 
+-- where the guest starts, and its segments, in the order of their headers
 pub record Image : Type 0 where
   pub entry : ℕ
   pub segments : List Segment

@@ -24,6 +24,10 @@ pub record Script : Type 0 where
   pub sectors : List Span
   pub entries : List Entry
 
--- an empty script: the timer rises each hundred steps, and nothing arrives
+-- the timer rises each so many steps where a script does not say
+abbrev pub default_clock : ℕ
+default_clock = 100
+
+-- an empty script: nothing arrives
 abbrev pub no_script : Script
-no_script = record { clock = 100; sectors = []; entries = [] }
+no_script = record { clock = default_clock; sectors = []; entries = [] }

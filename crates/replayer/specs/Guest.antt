@@ -2,6 +2,7 @@
 use Rattle.std.specs.Prelude.{ℕ, length}
 use Rattle.hart_model.specs.State.{State}
 
+-- the steps that it has done, and the bytes of its RAM
 abbrev pub steps_of : State → ℕ
 steps_of s = s.step
 

@@ -8,6 +8,7 @@ use Rattle.any_replay.specs.Replays as any
 use Rattle.replayer.specs.declared.replay.Replay.{Replay}
 use Rattle.replayer.specs.Guest.{steps_of, ram_bytes}
 
+-- a replay from this start was fed these records
 abbrev pub Replays : State → List Record → Replay → Type 0
 Replays start items replay = any.Replays hart steps_of ram_bytes start items replay.fed
 

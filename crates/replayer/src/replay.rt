@@ -15,13 +15,12 @@ pub struct Replay {
 impl CrossesThreads for Replay {}
 
 impl Replay {
-    ghost use Rattle.memory_map.specs.declared.TheConstants.{LEAST_RAM_KIB, MOST_RAM_KIB};
+    ghost use Rattle.memory_map.specs.declared.TheConstants.{GRAIN, LEAST_RAM_KIB, MOST_RAM_KIB};
     ghost use Rattle.std.specs.Prelude.{◌≡◌, ◌*◌, ◌%◌, ◌≤◌, ◌++◌, [], ◌∷◌, List, IfOk, IsTrue, is_some};
     ghost use Rattle.run_events.specs.declared.event.Event.{Event as Shown};
     ghost use Rattle.run_events.specs.declared.record.Record.{Record as Item};
     ghost use Rattle.run_events.specs.Record.{IsRecord};
     ghost use Rattle.machine_model.specs.Image.{IsLoadable};
-    ghost use Rattle.hart_model.specs.Fetch.{grain};
     ghost use Rattle.hart_model.specs.Machine.{hart};
     ghost use Rattle.hart_model.specs.State.{State};
     ghost use Rattle.any_machine.specs.Replay.{outcome, shown_by};
@@ -36,7 +35,7 @@ impl Replay {
         requires least { LEAST_RAM_KIB ≤ ram_kib }
         requires most { ram_kib ≤ MOST_RAM_KIB }
         requires loadable { IsLoadable (1024 * ram_kib) image.now.segments }
-        requires entry { image.now.entry % grain ≡ 0 }
+        requires entry { image.now.entry % GRAIN ≡ 0 }
         ensures replays { IfOk result (λ replay. Replays (started image.now ram_kib) [] replay) }
         ensures size { IfOk result (λ replay. ram_size_of replay ≡ 1024 * ram_kib) }
         ensures takes { IfOk result (λ replay. takes_of replay ≡ 0) }

@@ -6,13 +6,17 @@ use Rattle.run_events.specs.declared.announcement.Announcement.TheVariants.{Allo
 use Rattle.run_events.specs.declared.event.Event.{Event}
 use Rattle.run_events.specs.declared.event.Event.TheVariants.{Dma, Irq, Trap, Exec}
 
--- the word is slti x0, x0, k for some k: its low 20 bits are those of that instruction
+-- the word of slti x0, x0, 0; in that of slti x0, x0, k the number k stands above these 20 bits
+abbrev pub idle_compare : ℕ
+idle_compare = 0x2013
+
+-- the word is slti x0, x0, k for some k
 abbrev pub is_idle_compare : ℕ → Bool
-is_idle_compare word = word % 2 ^ 20 == 8211
+is_idle_compare word = word % 2 ^ 20 == idle_compare
 
 -- the word of slti x0, x0, k
 abbrev pub announcing : ℕ → ℕ
-announcing k = k * 2 ^ 20 + 8211
+announcing k = k * 2 ^ 20 + idle_compare
 
 -- what an instruction announces, with its arguments in a0, a1 and a2
 unfoldable pub announced_by : ℕ → Told → Option Announcement

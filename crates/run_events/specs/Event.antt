@@ -1,10 +1,11 @@
 -- What is said of single events.
-use Rattle.std.specs.Prelude.{◌≡◌, ℕ, ◌+◌, ◌*◌, ◌%◌, ◌^◌, ◌≤◌, ◌==◌, true, false, Option, None, Some, if◌then◌else◌}
+use Rattle.std.specs.Prelude.{◌≡◌, ℕ, ◌*◌, ◌%◌, ◌≤◌, ◌==◌, true, false, Option, None, Some, if◌then◌else◌}
 use Rattle.memory_map.specs.Ram.{InRam, IsWidth}
 use Rattle.run_events.specs.declared.access.Access.{Access}
 use Rattle.run_events.specs.declared.access.Access.TheVariants.{Quiet, Load, Store, Swap}
 use Rattle.run_events.specs.declared.event.Event.{Event}
 use Rattle.run_events.specs.declared.event.Event.TheVariants.{Dma, Irq, Trap, Exec}
+use Rattle.run_events.specs.Announcement.{announcing}
 
 -- the step at which an event stands; a word from the disk stands before its step
 abbrev pub step_of : Event → ℕ
@@ -46,7 +47,7 @@ AccessFits ram_kib (Swap address old new) = IsDataInRam ram_kib address 4
 pub record Announces (word k : ℕ) : Type 0 where
   pub from : 1 ≤ k
   pub to : k ≤ 7
-  pub spelled : word ≡ k * 2 ^ 20 + 8211
+  pub spelled : word ≡ announcing k
 
 -- what holds of each executed instruction of a machine with this RAM size
 pub record ExecFits (ram_kib pc word : ℕ) (access : Access) : Type 0 where

@@ -36,6 +36,7 @@ rank (Lines step bits) = 2
 rank (Load step value mark) = 3
 rank (End step cause) = 4
 
+-- a word of the disk, and the end, by their ranks
 abbrev pub is_dma : Record → Bool
 is_dma record' = rank record' == 1
 

@@ -33,6 +33,7 @@ script_fault (script.Falling line) = Some (line, script_model.Falling)
 script_fault (script.TooMany line) = Some (line, script_model.TooMany)
 script_fault script.NoMemory = None
 
+-- what is wrong with a run's files, where it is wrong with the image, and with the script: no memory is told by itself
 abbrev pub of_image : ImageFault → InputFault
 of_image (image.Short need) = fault.Image (image.Short need)
 of_image (image.NotThis field) = fault.Image (image.NotThis field)

@@ -54,6 +54,7 @@ bytes_in found = do
   disk ← file_in MOST_DISK_BYTES DiskTooLong found.disk
   Ok (record { image = image; script = script; disk = disk })
 
+-- an image and a script as parts of a run, whose faults name the part
 abbrev pub as_image : Result Image Fault → Result Image Refusal
 as_image (Ok image) = Ok image
 as_image (Err fault) = Err (BadImage fault)

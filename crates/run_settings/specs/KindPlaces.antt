@@ -20,9 +20,11 @@ filled_again : (used : ℕ) (places : List Kind) → IsKept used places
     → take used places ++ replicate (5 - length (take used places)) Heap ≡ places
 filled_again used places kept = rw (used_again used places kept) (sym kept.rest)
 
+-- the list of kinds that contracts see
 abbrev pub seen_in : Inside → List Kind
 seen_in k = take k.used k.places
 
+-- the places of a list of kinds
 abbrev pub places_of : List Kind → Inside
 places_of kinds = record {
   places = kinds ++ replicate (5 - length kinds) Heap;

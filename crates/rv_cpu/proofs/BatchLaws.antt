@@ -12,13 +12,15 @@ use Rattle.rv_decode.specs.declared.instruction.Instr.TheVariants as instr
 use Rattle.rv_decode.specs.declared.operations.LoadOp.{LoadOp}
 use Rattle.rv_decode.specs.declared.operations.StoreOp.{StoreOp}
 use Rattle.hart_model.specs.Effect.{Effect, Outcome, Does, Raises, going_on, writing, jumping, accessing, loading, loading_ram, loading_device, storing, storing_at}
-use Rattle.hart_model.specs.Fetch.{Fetch, Found, Outside, fetched, grain}
+use Rattle.memory_map.specs.declared.TheConstants.{GRAIN}
+use Rattle.hart_model.specs.Fetch.{Fetch, Found, Outside, fetched}
 use Rattle.hart_model.specs.Operations.{bits, sum, is_taken, load_width, load_result, store_width}
 use Rattle.hart_model.specs.State.{State, register}
 use Rattle.hart_model.specs.Step.{cpu, outcome, step_by, after_decode, after_fetch, unless_interrupted}
 use Rattle.rv_cpu.specs.Batch.{Going, going, goes, goes_plainly, goes_decoded, goes_fetched, counted_times, caught_up, from}
 use Rattle.rv_cpu.specs.Midway.{settled}
-use Rattle.rv_cpu.specs.Plain.{is_plain, is_plain_decoded, is_plain_fetched, is_plain_instr, is_plain_outcome, is_device_access}
+use Rattle.run_events.specs.Access.{is_of_device}
+use Rattle.rv_cpu.specs.Plain.{is_plain, is_plain_decoded, is_plain_fetched, is_plain_instr, is_plain_outcome}
 use Rattle.rv_cpu.specs.PlainRun.{plain_after, plain_next, are_plain}
 use Rattle.rv_cpu.proofs.PlainLaws.{first_of_both, second_of_both}
 
@@ -74,7 +76,7 @@ choose c false x x' y y' first second = second
 module _ (s : State) (c : Csrs) (n : ℕ) where
   jumping_moved : (size rd target : ℕ) → jumping (moved c n s) size rd target ≡ with_csrs c (jumping s size rd target)
   jumping_moved size rd target =
-      choose c (target % grain == 0) (Does (record (writing s size rd (sum s.pc size)) { next = target })) (Does (record (writing (moved c n s) size rd (sum s.pc size)) { next = target })) (Raises 0 target) (Raises 0 target) refl refl
+      choose c (target % GRAIN == 0) (Does (record (writing s size rd (sum s.pc size)) { next = target })) (Does (record (writing (moved c n s) size rd (sum s.pc size)) { next = target })) (Raises 0 target) (Raises 0 target) refl refl
 
   accessing_moved : (address width misaligned : ℕ) (x x' y y' : Outcome) → x' ≡ with_csrs c x → y' ≡ with_csrs c y
       → accessing (moved c n s) address width misaligned x' y' ≡ with_csrs c (accessing s address width misaligned x y)
@@ -152,7 +154,7 @@ module _ (s t : State) (next : ℕ) (c : Csrs) (n word : ℕ) where
   went_outcome : (o : Outcome) → o ≡ with_csrs s.csrs o → going (Some next) t ≡ goes_plainly s o → Went s t next c n (is_plain_outcome (with_csrs c o)) (step_by (moved c n s) word (with_csrs c o)).1
   went_outcome (Does e) own is =
       let same : e.csrs ≡ s.csrs = cc in
-      went_effect e (not (is_device_access e.access)) same is
+      went_effect e (not (is_of_device e.access)) same is
   went_outcome (Raises cause value) own is = nowhere next t s is
 
   went_by : (lines size : ℕ) (i : Instr) (b : Bool) → is_plain_instr i ≡ b → going (Some next) t ≡ (if b then goes_plainly s (outcome s 0 None 0 size i) else going None s)
@@ -184,7 +186,7 @@ stayed_choice s t e true is =
 stayed_choice s t e false is = record { is_not = refl; same = ap (λ (g : Going). g.state) is }
 
 stayed_outcome : (s t : State) (c : Csrs) (o : Outcome) → going None t ≡ goes_plainly s o → Stayed s t (is_plain_outcome (with_csrs c o))
-stayed_outcome s t c (Does e) is = stayed_choice s t e (not (is_device_access e.access)) is
+stayed_outcome s t c (Does e) is = stayed_choice s t e (not (is_of_device e.access)) is
 stayed_outcome s t c (Raises cause value) is = record { is_not = refl; same = ap (λ (g : Going). g.state) is }
 
 stayed_by : (s t : State) (c : Csrs) (n lines word size : ℕ) (i : Instr) (b : Bool) → is_plain_instr i ≡ b → going None t ≡ (if b then goes_plainly s (outcome s 0 None 0 size i) else going None s)

@@ -15,7 +15,8 @@ use Rattle.hart_model.specs.Fetch.{Fetch, Found, Outside, fetched}
 use Rattle.hart_model.specs.Machine.{hart}
 use Rattle.hart_model.specs.State.{State}
 use Rattle.hart_model.specs.Step.{cpu, outcome, step_by, need_of, need_of_access, after_decode, after_fetch, unless_interrupted, executed_event, executed_state}
-use Rattle.rv_cpu.specs.Plain.{is_plain, is_plain_decoded, is_plain_fetched, is_plain_instr, is_plain_outcome, is_device_access}
+use Rattle.run_events.specs.Access.{is_of_device}
+use Rattle.rv_cpu.specs.Plain.{is_plain, is_plain_decoded, is_plain_fetched, is_plain_instr, is_plain_outcome}
 use Rattle.rv_cpu.specs.PlainRun.{are_plain, plain_next}
 
 pub first_of_both : (a b : Bool) → (a && b) ≡ true → a ≡ true
@@ -30,14 +31,14 @@ second_of_both false b both = cc
 pub record PlainStep (s : State) (result : Event × State) : Type 0 where
   pub word : ℕ
   pub effect : Effect
-  pub other : is_device_access effect.access ≡ false
+  pub other : is_of_device effect.access ≡ false
   pub inside : AccessInside (length s.ram) effect.access
   pub is : result ≡ (executed_event s word effect, executed_state s effect)
 
 module _ (s : State) (lines : ℕ) where
   by_outcome : (word size : ℕ) (o : Outcome) → OutcomeKeeps s size o → is_plain_outcome o ≡ true → PlainStep s (step_by s word o)
   unfolding step_by
-  by_outcome word size (Does e) keeps plain = record { word = word; effect = e; other = flip (is_device_access e.access) plain; inside = keeps.data_inside; is = refl }
+  by_outcome word size (Does e) keeps plain = record { word = word; effect = e; other = flip (is_of_device e.access) plain; inside = keeps.data_inside; is = refl }
     where
       flip : (b : Bool) → not b ≡ true → b ≡ false
       flip true is = cc
@@ -60,7 +61,7 @@ module _ (s : State) (lines : ℕ) where
   unfolding is_plain cpu
   plain_step plain = by_pending (pending s.csrs lines) plain
 
-access_needs : (a : Access) → is_device_access a ≡ false → need_of_access a ≡ Nothing
+access_needs : (a : Access) → is_of_device a ≡ false → need_of_access a ≡ Nothing
 access_needs Quiet other = refl
 access_needs (Load address width value true mark) other = cc
 access_needs (Load address width value false mark) other = refl
@@ -74,7 +75,7 @@ plain_needs s lines plain =
     ap (λ (x : Event × State). need_of x.0) step.is ∙ access_needs step.effect.access step.other
 
 -- so it stores no byte at an address below RAM, where all device registers are
-access_stores : (bytes place : ℕ) (a : Access) → place < RAM_START → is_device_access a ≡ false → AccessInside bytes a → byte_stored_at place a ≡ None
+access_stores : (bytes place : ℕ) (a : Access) → place < RAM_START → is_of_device a ≡ false → AccessInside bytes a → byte_stored_at place a ≡ None
 access_stores bytes place Quiet below other inside = refl
 access_stores bytes place (Load address width value device mark) below other inside = refl
 access_stores bytes place (Store address width value true) below other inside = cc

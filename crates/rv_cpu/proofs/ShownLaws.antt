@@ -1,14 +1,13 @@
 -- A loop over plain steps that are shown is a run of the hart.
 use Rattle.std.proofs.Common.{◌≡◌, ◌∙◌, ℕ, zero, suc, ◌%◌, ◌+◌, ◌*◌, ◌<◌, true, false, List, [], ◌∷◌, ◌++◌, length, Option, None, Some, refl, sym, ap, subst, append-nil, arith}
 use Rattle.std.specs.Prelude.{is_some}
-use Rattle.memory_map.specs.declared.TheConstants.{POWER}
+use Rattle.memory_map.specs.declared.TheConstants.{GRAIN, POWER}
 use Rattle.run_events.specs.declared.event.Event.{Event}
 use Rattle.run_events.specs.Event.{Fits, byte_stored}
 use Rattle.any_machine.specs.Running.{RunSoFar, unfed}
 use Rattle.any_machine.proofs.RunningLaws.{loop_fast, loop_first}
 use Rattle.rv_csr.specs.declared.csrs.Csrs.{Csrs}
 use Rattle.rv_csr.specs.Traps.{pending}
-use Rattle.hart_model.specs.Fetch.{grain}
 use Rattle.hart_model.specs.Aligned.{IsAligned}
 use Rattle.hart_model.specs.Machine.{hart}
 use Rattle.hart_model.specs.State.{State}
@@ -39,10 +38,10 @@ mepc_times zero c = refl
 mepc_times (suc count) c = mepc_times count c
 
 pub aligned_ahead : (count : ℕ) (s : State) → IsAligned s → IsAligned (caught_up count s)
-aligned_ahead count s a = record { pc = a.pc; mepc = ap (λ (m : ℕ). m % grain) (mepc_times count s.csrs) ∙ a.mepc }
+aligned_ahead count s a = record { pc = a.pc; mepc = ap (λ (m : ℕ). m % GRAIN) (mepc_times count s.csrs) ∙ a.mepc }
 
 aligned_behind : (count : ℕ) (s : State) → IsAligned (caught_up count s) → IsAligned s
-aligned_behind count s a = record { pc = a.pc; mepc = ap (λ (m : ℕ). m % grain) (sym (mepc_times count s.csrs)) ∙ a.mepc }
+aligned_behind count s a = record { pc = a.pc; mepc = ap (λ (m : ℕ). m % GRAIN) (sym (mepc_times count s.csrs)) ∙ a.mepc }
 
 -- an event that is told fits
 pub told_fits : (lines behind kib : ℕ) (s : State) → pending s.csrs lines ≡ None → IsAligned s → length s.ram ≡ 1024 * kib

@@ -15,7 +15,8 @@ use Rattle.hart_model.specs.State.{State, taken, told_by}
 use Rattle.hart_model.specs.Step.{cpu, outcome, step_by, after_decode, after_fetch, unless_interrupted}
 use Rattle.rv_cpu.specs.Batch.{counted_times, caught_up, from}
 use Rattle.rv_cpu.specs.Midway.{Midway, settled, midway, plainly, refused, executed_plainly}
-use Rattle.rv_cpu.specs.Plain.{is_plain, is_plain_decoded, is_plain_fetched, is_plain_instr, is_plain_outcome, is_device_access}
+use Rattle.run_events.specs.Access.{is_of_device}
+use Rattle.rv_cpu.specs.Plain.{is_plain, is_plain_decoded, is_plain_fetched, is_plain_instr, is_plain_outcome}
 use Rattle.rv_cpu.specs.Told.{told_midway, told_decoded, told_fetched, next_told}
 use Rattle.rv_cpu.proofs.BatchLaws.{moved, with_csrs, outcome_moved, pending_times}
 
@@ -40,7 +41,7 @@ module _ (s : State) (c : Csrs) (behind word : ℕ) (x : Event × State) where
       → Told s c (s.step + behind) (is_plain_outcome (with_csrs c o)) (step_by (moved c (s.step + behind) s) word (with_csrs c o)) x
   told_outcome (Does e) own is =
       let same : e.csrs ≡ s.csrs = cc in
-      told_effect e (not (is_device_access e.access)) same is
+      told_effect e (not (is_of_device e.access)) same is
   told_outcome (Raises cause value) own is = absurd cc
 
   told_instr : (lines size : ℕ) (i : Instr) (b : Bool) → is_plain_instr i ≡ b
@@ -72,7 +73,7 @@ module _ (s : State) (c : Csrs) (behind n word : ℕ) where
   none_effect e false is = refl
 
   none_outcome : (o : Outcome) → told_midway behind (told_by s.registers) word (plainly s o) ≡ None → is_plain_outcome (with_csrs c o) ≡ false
-  none_outcome (Does e) is = none_effect e (not (is_device_access e.access)) is
+  none_outcome (Does e) is = none_effect e (not (is_of_device e.access)) is
   none_outcome (Raises cause value) is = refl
 
   none_instr : (lines size : ℕ) (i : Instr) (b : Bool) → is_plain_instr i ≡ b → told_midway behind (told_by s.registers) word (if b then plainly s (outcome s lines None word size i) else refused s) ≡ None

@@ -34,13 +34,14 @@ rest_of after (done.Raised cause value) = Traps cause value
 rest_of after (done.Quiet result next) = Goes result next access.Quiet
 rest_of after (done.Accessed result access) = Goes result after access
 
--- it was not left to another call
-abbrev pub IsLeft : Done → Type 0
-IsLeft done.Other = ⊥
-IsLeft (done.Raised cause value) = Unit {0}
-IsLeft (done.Quiet result next) = Unit {0}
-IsLeft (done.Accessed result access) = Unit {0}
+-- the instruction was done, and not left to another call
+abbrev pub WasDone : Done → Type 0
+WasDone done.Other = ⊥
+WasDone (done.Raised cause value) = Unit {0}
+WasDone (done.Quiet result next) = Unit {0}
+WasDone (done.Accessed result access) = Unit {0}
 
+-- a step so far, in which an instruction of this size left this
 abbrev pub at : ℕ → Done → State → Midway
 at size done s = record { rest = rest_of (sum s.pc size) done; state = s }
 

@@ -1,8 +1,7 @@
 -- Plain steps: an instruction is executed that is no fence, no atomic and none of the privileged manual, and accesses no
 -- device.
 use Rattle.std.specs.Prelude.{ℕ, Bool, true, false, not, ◌&&◌, Option, None, Some, is_none}
-use Rattle.run_events.specs.declared.access.Access.{Access}
-use Rattle.run_events.specs.declared.access.Access.TheVariants as access
+use Rattle.run_events.specs.Access.{is_of_device}
 use Rattle.rv_decode.specs.declared.instruction.Instr.{Instr}
 use Rattle.rv_decode.specs.declared.instruction.Instr.TheVariants as instr
 use Rattle.rv_csr.specs.Traps.{pending}
@@ -22,15 +21,9 @@ is_plain_instr instr.Mret = false
 is_plain_instr instr.Wfi = false
 is_plain_instr _ = true
 
--- an access of a device register
-abbrev pub is_device_access : Access → Bool
-is_device_access (access.Load address width value device mark) = device
-is_device_access (access.Store address width value device) = device
-is_device_access _ = false
-
 -- what they come to in a plain step: no exception, and no device
 abbrev pub is_plain_outcome : Outcome → Bool
-is_plain_outcome (Does e) = not (is_device_access e.access)
+is_plain_outcome (Does e) = not (is_of_device e.access)
 is_plain_outcome (Raises cause value) = false
 
 abbrev pub is_plain_decoded : State → (lines word size : ℕ) → Option Instr → Bool

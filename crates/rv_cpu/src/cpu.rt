@@ -30,7 +30,7 @@ impl Model for Cpu {
 }
 
 impl Cpu {
-    ghost use Rattle.hart_model.specs.Fetch.{grain};
+    ghost use Rattle.memory_map.specs.declared.TheConstants.{GRAIN};
     ghost use Rattle.any_machine.specs.Running.{IsFed, RunSoFar, unfed};
     ghost use Rattle.hart_model.specs.Machine.{hart, holds_word};
     ghost use Rattle.hart_model.specs.State.{State, register, reset_state};
@@ -41,7 +41,7 @@ impl Cpu {
     /// A hart at step 0: all registers are 0, the CSRs are those of reset, no word is reserved. `entry` is the address of
     /// its first instruction. It takes no memory.
     pub fn new(ram: Ram, entry: u32) -> Cpu
-        requires { entry % grain ≡ 0 }
+        requires { entry % GRAIN ≡ 0 }
         ensures { result ≡ reset_state ram entry }
     {
         Cpu {
@@ -160,7 +160,7 @@ impl Cpu {
     /// The address of the next instruction.
     pub fn pc(&self) -> u32
         ensures value { result ≡ self.now.pc }
-        ensures aligned { result % grain ≡ 0 }
+        ensures aligned { result % GRAIN ≡ 0 }
     {
         self.engine.pc
     }

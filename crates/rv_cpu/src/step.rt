@@ -7,7 +7,7 @@ ghost use Rattle.hart_model.specs.Effect as model;
 ghost use Rattle.hart_model.specs.Operations.{sum};
 ghost use Rattle.hart_model.specs.State.{register};
 ghost use Rattle.hart_model.specs.Step.{cpu, outcome, step_by, trapped, interrupted, touch};
-ghost use Rattle.rv_cpu.specs.Midway.{Goes, IsLeft, at, closed, ended};
+ghost use Rattle.rv_cpu.specs.Midway.{Goes, WasDone, at, closed, ended};
 
 use crate::atomics::is_reserved;
 use crate::done::Done;
@@ -83,7 +83,7 @@ impl Engine {
     #[inline(always)]
     fn conclude(&mut self, word: u32, size: u32, told: Told, done: Done) -> Event
         requires room { self.old.step < MOST_STEPS }
-        requires left { IsLeft done }
+        requires not_left { WasDone done }
         ensures { closed told word (at size done self.old) ≡ Some (result, self.new) }
     {
         match done {

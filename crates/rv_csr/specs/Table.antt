@@ -20,6 +20,7 @@ pub data Place : Type 0 where
   At : (address : ℕ) → Place
   Range : (first last : ℕ) → Place
 
+-- the address is one of the place
 abbrev pub lies : ℕ → Place → Bool
 lies address (At place) = address == place
 lies address (Range first last) = nat_le first address && nat_le address last

@@ -4,7 +4,6 @@ use Rattle.std.specs.Prelude.{◌==◌, if◌then◌else◌}
 use Rattle.memory_map.specs.declared.TheConstants.{RAM_START}
 use Rattle.machine_model.specs.Script.{Script}
 use Rattle.machine_model.specs.Board as model
-use Rattle.machine_model.specs.Board.{words_of}
 
 -- a status other than 1 is not busy
 pub not_busy : (a : model.Activity) → (model.status_of a ≡ 1 → ⊥) → model.is_busy a ≡ false

@@ -5,9 +5,9 @@ use Rattle.std.specs.Prelude.{if◌then◌else◌, nat_lt}
 use Rattle.std.specs.Option.{option_map}
 use Rattle.run_events.specs.declared.supply.Supplied.{Supplied}
 use Rattle.machine_model.specs.Script.{Entry}
-use Rattle.machine_model.specs.Board.{Arrival}
+use Rattle.machine_model.specs.Board.{Arrival, given}
 use Rattle.rv_devices.specs.declared.schedule.Schedule.{Schedule}
-use Rattle.rv_devices.specs.Entries.{arrivals_at, given}
+use Rattle.rv_devices.specs.Entries.{arrivals_at}
 use Rattle.rv_devices.specs.Follows.{Follows, next_byte}
 
 -- the entries are its own

@@ -3,9 +3,8 @@ use Rattle.std.proofs.Common.{zero, suc}
 use Rattle.std.specs.Prelude.{ℕ, ◌≤◌, ◌<◌, List, [], ◌∷◌, take, sum_by, slice_get}
 use Rattle.std.specs.Option.{option_map_or}
 use Rattle.std.specs.List.{filter_map}
-use Rattle.run_events.specs.declared.supply.Supplied.{Supplied}
 use Rattle.machine_model.specs.Script.{Entry}
-use Rattle.machine_model.specs.Board.{Arrival, arrivals_of, ticks_by, latency_by, last_or}
+use Rattle.machine_model.specs.Board.{Arrival, arrivals_of, ticks_by, first_latency, latency_by, last_or}
 
 -- the first so many entries are due once so many steps have begun
 abbrev pub AreDue : ℕ → ℕ → List Entry → Type 0
@@ -27,12 +26,8 @@ ticks_before place entries = sum_by ticks_of (take place entries)
 
 abbrev pub latency_before : ℕ → List Entry → ℕ
 latency_before place entries =
-    last_or 1000 (filter_map (λ entry. latency_by entry.what) (take place entries))
+    last_or first_latency (filter_map (λ entry. latency_by entry.what) (take place entries))
 
 -- the serial bytes of the entry at a place
 abbrev pub arrivals_at : ℕ → List Entry → List Arrival
 arrivals_at place entries = option_map_or arrivals_of (slice_get entries place) []
-
--- a serial byte, as a load gives it
-abbrev pub given : Arrival → Supplied
-given byte = record { value = byte.value; mark = byte.mark }

@@ -204,7 +204,10 @@ impl Disk {
         ensures sent { self.new.pending.sent ≡ 512 }
     {
         let at = SECTOR_BYTES * self.sector as usize;
-        self.bytes[at..at + SECTOR_BYTES].copy_from_slice(ram.bytes(self.address, SECTOR_BYTES as u32));
+        self.bytes[at..at + SECTOR_BYTES].copy_from_slice(ram.bytes(
+            self.address,
+            SECTOR_BYTES as u32,
+        ));
         self.pending.sent = SECTOR_BYTES;
         self.pending.address = self.address;
         self.activity = Activity::Busy { before };

@@ -2,7 +2,7 @@
 ghost use Rattle.std.specs.Prelude.{◌≡◌, ◌+◌, ◌^◌, ◌<◌, length, slice_get, OnSome};
 ghost use Rattle.std.specs.Option.{option_map, option_to_list};
 ghost use Rattle.machine_model.specs.Board as model;
-ghost use Rattle.rv_devices.specs.Entries.{given};
+ghost use Rattle.machine_model.specs.Board.{given};
 
 use in_script::{Entry, What};
 use run_events::Supplied;
@@ -80,8 +80,8 @@ impl Schedule {
     ghost use Rattle.std.specs.Prelude.{◌≡◌, ℕ, ◌+◌, ◌%◌, ◌^◌, ◌≤◌, ◌<◌, List, length, slice_get, drop, nat_le, nat_lt, IfSome, OnSome, if◌then◌else◌};
     ghost use Rattle.std.specs.Option.{option_map};
     ghost use Rattle.machine_model.specs.Script.{Entry as Arrives};
-    ghost use Rattle.machine_model.specs.Board.{RisesFrom, byte_given};
-    ghost use Rattle.rv_devices.specs.Entries.{AreDue, AreLater, ticks_before, latency_before, arrivals_at, given};
+    ghost use Rattle.machine_model.specs.Board.{RisesFrom, byte_given, given};
+    ghost use Rattle.rv_devices.specs.Entries.{AreDue, AreLater, ticks_before, latency_before, arrivals_at};
     ghost use Rattle.rv_devices.specs.Follows.{Follows, left_of, next_byte};
 
     /// The schedule of these entries, before the first step.

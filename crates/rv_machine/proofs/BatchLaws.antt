@@ -17,7 +17,8 @@ use Rattle.hart_model.specs.State.{State}
 use Rattle.hart_model.specs.Step.{cpu}
 use Rattle.machine_model.specs.Board.{BoardState, IsUnderWay, at_step, board_lines}
 use Rattle.machine_model.specs.Script.{Script}
-use Rattle.rv_cpu.specs.Plain.{is_plain, is_device_access}
+use Rattle.run_events.specs.Access.{is_of_device}
+use Rattle.rv_cpu.specs.Plain.{is_plain}
 use Rattle.rv_cpu.specs.PlainRun.{are_plain, plain_after, plain_next}
 use Rattle.rv_cpu.proofs.PlainLaws.{plain_first, plain_needs, plain_others, plain_step, plain_stores}
 use Rattle.rv_devices.specs.Stands.{Stands, words_due}
@@ -35,7 +36,7 @@ told_by_number : (step : ℕ) (event : Event) → serial_byte event ≡ None →
 told_by_number step event is = ap (λ (o : Option ℕ). if is_some o || suc step % 256 == 0 then record { item = Reach (suc step); byte = o } ∷ [] else []) is
 
 -- a plain step changes no device
-access_apart : (script : Script) (step : ℕ) (ram : List ℕ) (b : BoardState) (a : Access) → is_device_access a ≡ false → after_access script step ram b a ≡ b
+access_apart : (script : Script) (step : ℕ) (ram : List ℕ) (b : BoardState) (a : Access) → is_of_device a ≡ false → after_access script step ram b a ≡ b
 access_apart script step ram b Quiet other = refl
 access_apart script step ram b (Load address width value device mark) other = refl
 access_apart script step ram b (Store address width value true) other = absurd cc

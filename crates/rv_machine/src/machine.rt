@@ -1,5 +1,5 @@
 //! The recorder.
-ghost use Rattle.memory_map.specs.declared.TheConstants.{LEAST_RAM_KIB, MOST_DISK_BYTES, MOST_RAM_BYTES, MOST_RAM_KIB, MOST_STEPS};
+ghost use Rattle.memory_map.specs.declared.TheConstants.{GRAIN, LEAST_RAM_KIB, MOST_DISK_BYTES, MOST_RAM_BYTES, MOST_RAM_KIB, MOST_STEPS};
 ghost use Rattle.std.specs.Prelude.{◌≡◌, ◌+◌, ◌%◌, ◌*◌, ◌^◌, ◌<◌, ◌≤◌, ℕ, false, true, List, IfOk, IsTrue, is_some, length, map, vec_len};
 ghost use Rattle.any_machine.specs.Log.{items};
 ghost use Rattle.any_machine.specs.Machine.{is_load};
@@ -7,7 +7,6 @@ ghost use Rattle.any_machine.specs.Recorder.{end_item};
 ghost use Rattle.board_model.specs.Guest.{run, started};
 ghost use Rattle.board_model.specs.TheBoard.{after_access, after_event};
 ghost use Rattle.hart_model.proofs.DeviceLaws.{AtRegister, IsAtRegister};
-ghost use Rattle.hart_model.specs.Fetch.{grain};
 ghost use Rattle.hart_model.specs.Machine.{holds_word};
 ghost use Rattle.hart_model.specs.Step.{cpu as step_of, needs, touch};
 ghost use Rattle.machine_model.specs.Board.{BoardState, IsPlayable};
@@ -52,7 +51,7 @@ fn start(alloc: Global, image: &Image, ram_kib: u32) -> Result<Cpu, NoMemory>
     requires least { LEAST_RAM_KIB ≤ ram_kib }
     requires most { ram_kib ≤ MOST_RAM_KIB }
     requires loadable { IsLoadable (1024 * ram_kib) image.now.segments }
-    requires aligned { image.now.entry % grain ≡ 0 }
+    requires aligned { image.now.entry % GRAIN ≡ 0 }
     ensures start { IfOk result (λ cpu. cpu ≡ started image.now ram_kib) }
     ensures size { IfOk result (λ cpu. length cpu.ram ≡ 1024 * ram_kib) }
 {
@@ -78,7 +77,7 @@ impl Machine {
         requires most { ram_kib ≤ MOST_RAM_KIB }
         requires limit { limit ≤ MOST_STEPS }
         requires loadable { IsLoadable (1024 * ram_kib) image.now.segments }
-        requires aligned { image.now.entry % grain ≡ 0 }
+        requires aligned { image.now.entry % GRAIN ≡ 0 }
         requires script { IsPlayable script }
         requires disk { vec_len disk ≤ MOST_DISK_BYTES }
         ensures { IfOk result (λ machine. ToCome machine

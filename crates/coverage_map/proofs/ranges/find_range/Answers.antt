@@ -3,7 +3,7 @@ use Rattle.std.proofs.lemmas.List.{drop-drop}
 use Rattle.list_laws.proofs.PlaceLaws.{dropped-at}
 use Rattle.analysis_model.specs.Cover.{CodeRange, runs}
 use Rattle.coverage_map.specs.Coverage.{marked}
-use Rattle.coverage_map.specs.Places.{marked_behind}
+use Rattle.coverage_map.specs.Places.{marked_from_place}
 use Rattle.coverage_map.proofs.PlaceLaws.{range_is_there}
 use Rattle.coverage_map.proofs.ranges.find_range.Goals as goal
 
@@ -23,7 +23,7 @@ range_end-requires-2 c = c.loop-passed.invariant.found (range_is_there c.args.ma
 pub returns : goal.returns
 returns c =
     let all = runs (marked c.args.marks.now) in
-    let behind = runs (marked_behind c.args.marks.now c.range_end-2.result) in
+    let behind = runs (marked_from_place c.args.marks.now c.range_end-2.result) in
     let range : CodeRange = record { from = c.address_of.result; to = c.address_of-2.result } in
     let done : c.loop-passed.passed ≡ c.args.index = omega arith in
     let front : drop c.args.index all ≡ range ∷ behind = rw (← done, c.address_of.ensures, c.address_of-2.ensures) (c.loop-passed.invariant.rest ∙ c.range_end-2.ensures.range) in
