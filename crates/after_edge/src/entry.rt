@@ -13,8 +13,10 @@ use std::marker::Model;
 #[derive(Drop)]
 pub(crate) struct Entry {
     name: String,
+    // whether there is a file, and its bytes
     present: bool,
     bytes: Vec<u8>,
+    // how many bytes the file may have
     room: usize,
 }
 
@@ -59,7 +61,7 @@ impl Entry {
         }
     }
 
-    // Room for this many bytes at least.
+    // Reserves room for this many bytes at least. Where there is no memory, all is as before.
     pub(crate) fn reserve(&mut self, room: usize) -> Result<(), NoMemory>
         ensures ok { OnOk result (self.new ≡ with_room room self.old) }
         ensures within { room ≤ self.old.room → IsOk result }
@@ -76,7 +78,7 @@ impl Entry {
         Ok(())
     }
 
-    // An empty file.
+    // Makes the file, or makes it empty.
     pub(crate) fn begin(&mut self)
         ensures { self.new ≡ with_no_bytes self.old }
     {
@@ -97,7 +99,7 @@ impl Entry {
         piece.len() <= room
     }
 
-    // A file with these bytes.
+    // Makes the file with these bytes, and reserves room for them. Where there is no memory, all is as before.
     pub(crate) fn fill(&mut self, bytes: &[u8]) -> Result<(), NoMemory>
         ensures ok { OnOk result (self.new ≡ with_bytes bytes.now self.old) }
         ensures within { length bytes.now ≤ self.old.room → IsOk result }

@@ -15,7 +15,9 @@ use std::marker::Model;
 pub struct MemorySink {
     bytes: Vec<u8>,
     capacity: usize,
+    // the numbers of the puts that are to fail, each with how many bytes it takes before
     plan: Vec<(u64, usize)>,
+    // how many puts there were, and how many of them failed
     puts: u64,
     faults: u64,
 }
