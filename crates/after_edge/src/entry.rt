@@ -78,7 +78,7 @@ impl Entry {
         Ok(())
     }
 
-    // Makes the file, or makes it empty.
+    // Makes the file empty, and makes one where there is none.
     pub(crate) fn begin(&mut self)
         ensures { self.new ≡ with_no_bytes self.old }
     {

@@ -3,7 +3,7 @@
 /// The five analyses, in the order of their numbers from 0.
 #[derive(Clone, Copy, Debug, PartialEq, Eq)]
 pub enum Kind {
-    /// Accesses around and after the blocks of the guest's heap, and frees of what is no live block.
+    /// The guest's heap: accesses to the redzones beside its blocks and to freed blocks, and frees of what is not live.
     Heap,
     /// Marked input: where it decides on a jump, or is about to leave.
     Taint,

@@ -74,7 +74,7 @@ impl Engine {
         }
     }
 
-    // Loads from RAM.
+    // Loads from RAM and goes on; where the address is misaligned or elsewhere, nothing is done.
     #[inline(always)]
     fn batch_load_as(
         &mut self,
@@ -101,7 +101,7 @@ impl Engine {
         self.give(size, pc, rd, alu::loaded(op, value))
     }
 
-    // A body of its own for each operation, in which the compiler knows the width.
+    // The same, with a body of its own for each operation, in which the compiler knows the width.
     #[inline(always)]
     fn batch_load(
         &mut self,
@@ -128,7 +128,7 @@ impl Engine {
         }
     }
 
-    // Stores to RAM.
+    // Stores to RAM and goes on; where the address is misaligned or elsewhere, nothing is done.
     #[inline(always)]
     fn batch_store_as(
         &mut self,
@@ -156,7 +156,7 @@ impl Engine {
         self.give(size, pc, 0, 0)
     }
 
-    // The same for stores.
+    // The same, with a body of its own for each operation.
     #[inline(always)]
     fn batch_store(
         &mut self,
@@ -181,7 +181,7 @@ impl Engine {
         }
     }
 
-    // Does a plain instruction at a pc, and answers where it goes on; of another one, nothing. (Unprivileged manual,
+    // Does a plain instruction at a pc, and answers where it goes on; for another one nothing is done. (Unprivileged manual,
     // chapters 2 and 7.)
     #[tactic(auto, unfolding(hart_model::specs::Step::outcome))]
     #[inline(always)]
@@ -236,7 +236,7 @@ impl Engine {
         }
     }
 
-    /// Ends so many plain steps: the pc and the counters.
+    /// Ends so many plain steps, of which the last one goes on at `pc`: sets the pc, and raises the counters.
     pub fn catch_up(&mut self, pc: u32, count: u32)
         requires { self.old.step + count ≤ MOST_STEPS }
         ensures { self.new ≡ caught_up count (from self.old pc) }

@@ -165,7 +165,7 @@ impl Cpu {
         self.engine.pc
     }
 
-    /// What a register holds.
+    /// What the register x`index` holds.
     pub fn register(&self, index: u32) -> u32
         requires { index < 32 }
         ensures { result ≡ register self.now index }

@@ -11,10 +11,13 @@ use std::marker::Model;
 #[derive(Drop)]
 pub struct Engine {
     pub registers: [u32; 32],
+    /// The address of the next instruction.
     pub pc: u32,
     pub csrs: Csrs,
     pub ram: Ram,
+    /// The address of the word that is reserved, if one is.
     pub reserved: Option<u32>,
+    /// The number of steps done.
     pub steps: u32,
 }
 

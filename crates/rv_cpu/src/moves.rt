@@ -81,7 +81,7 @@ impl Engine {
         }
     }
 
-    /// Branches to a target where the test on two registers holds; else goes on.
+    /// `branch` where it raises no exception; else nothing.
     #[inline(always)]
     pub fn branch_plainly(&mut self, size: u32, taken: bool, target: u32) -> Done
         ensures { at size result self.new
@@ -97,7 +97,8 @@ impl Engine {
         }
     }
 
-    /// The same as the whole instruction: a branch that is taken to where no instruction can begin is exception 0.
+    /// Branches to a target where the test on two registers holds; else goes on. Where the branch is taken and no instruction
+    /// can begin at the target, it is exception 0.
     pub fn branch(&mut self, size: u32, taken: bool, target: u32) -> Done
         ensures { at size result self.new
             ≡ midway self.old

@@ -27,7 +27,7 @@ impl Engine {
         }
     }
 
-    // Its operand: a register, or the number in the register's place.
+    // The operand of a CSR instruction: what a register holds, or the number in the register's place.
     fn csr_operand(&self, op: CsrOp, source: u32) -> u32
         requires { IsRegister source }
         ensures { result ≡ model.csr_operand self.now op source }

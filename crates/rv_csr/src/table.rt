@@ -10,7 +10,7 @@ use crate::addresses::{
 use crate::csrs::Csrs;
 use memory_map::{GRAIN, high_half, low_half, with_high, with_low};
 
-// A bit of a word.
+// Whether this bit of a word is set.
 fn has_bit(bit: u32, word: u32) -> bool
     requires { bit < 32 }
     ensures { result ≡ model.has_bit bit word }
@@ -26,7 +26,7 @@ fn bit_if(bit: u32, flag: bool) -> u32
     if flag { 1 << bit } else { 0 }
 }
 
-// Whether bits 11:10 of an address are 11.
+// Whether bits 11:10 of an address are 11: such a register is only read.
 fn is_read_only(address: u32) -> bool
     ensures { result ≡ model.is_read_only address }
 {

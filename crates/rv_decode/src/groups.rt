@@ -1,4 +1,4 @@
-//! The instructions of each opcode, read. (Unprivileged manual, chapter 24.)
+//! The instructions of each opcode, and none where a word of the opcode spells none. (Unprivileged manual, chapter 24.)
 ghost use Rattle.std.specs.Prelude.{◌≡◌, ◌⊎◌, ℕ, ◌%◌, ◌^◌, ◌++◌};
 ghost use Rattle.rv_decode.specs.Fields.{opcode_of, funct3_of};
 ghost use Rattle.rv_decode.specs.Listing.{read_by, jalrs, branches, loads, stores, immediates, registers, fences, atomics, csrs, bares};
@@ -8,7 +8,7 @@ use crate::fields::{funct3, imm_b, imm_i, imm_s, rd, rs1, rs2};
 use crate::instruction::Instr;
 use crate::operations::{AtomicOp, BranchOp, CsrOp, FenceOp, ImmOp, LoadOp, RegOp, StoreOp};
 
-/// What a word of the opcode 67 reads: JALR.
+/// What a word of the opcode 0x67 spells: JALR.
 #[inline(always)]
 pub fn jalr(word: u32) -> Option<Instr>
     requires { opcode_of word ≡ 0x67 }
@@ -24,7 +24,7 @@ pub fn jalr(word: u32) -> Option<Instr>
     }
 }
 
-/// What a word of the opcode 63 reads: the branches.
+/// What a word of the opcode 0x63 spells: the branches.
 #[inline(always)]
 pub fn branch(word: u32) -> Option<Instr>
     requires { opcode_of word ≡ 0x63 }
@@ -55,7 +55,7 @@ fn load_of(op: LoadOp, word: u32) -> Instr
     }
 }
 
-/// What a word of the opcode 03 reads: the loads.
+/// What a word of the opcode 0x03 spells: the loads.
 #[inline(always)]
 pub fn load(word: u32) -> Option<Instr>
     requires { opcode_of word ≡ 0x03 }
@@ -84,7 +84,7 @@ fn store_of(op: StoreOp, word: u32) -> Instr
     }
 }
 
-/// What a word of the opcode 23 reads: the stores.
+/// What a word of the opcode 0x23 spells: the stores.
 #[inline(always)]
 pub fn store(word: u32) -> Option<Instr>
     requires { opcode_of word ≡ 0x23 }
@@ -99,7 +99,7 @@ pub fn store(word: u32) -> Option<Instr>
     Some(store_of(op, word))
 }
 
-// What a shift by an immediate reads.
+// What a word with the opcode and the funct3 of a shift by an immediate spells.
 #[inline(always)]
 fn shift(word: u32) -> Option<Instr>
     requires opcode { opcode_of word ≡ 0x13 }
@@ -116,7 +116,7 @@ fn shift(word: u32) -> Option<Instr>
     Some(Instr::OpImm { op, rd, rs1, imm })
 }
 
-/// What a word of the opcode 13 reads: the operations on an immediate.
+/// What a word of the opcode 0x13 spells: the operations on an immediate.
 #[inline(always)]
 pub fn immediate(word: u32) -> Option<Instr>
     requires { opcode_of word ≡ 0x13 }
@@ -147,7 +147,7 @@ fn register_of(op: RegOp, word: u32) -> Instr
     }
 }
 
-/// What a word of the opcode 33 reads: the operations on registers.
+/// What a word of the opcode 0x33 spells: the operations on registers.
 #[inline(always)]
 pub fn register(word: u32) -> Option<Instr>
     requires { opcode_of word ≡ 0x33 }
@@ -189,7 +189,7 @@ fn fence_of(op: FenceOp, word: u32) -> Instr
     }
 }
 
-/// What a word of the opcode 0f reads: FENCE and FENCE.I.
+/// What a word of the opcode 0x0f spells: FENCE and FENCE.I.
 #[inline(always)]
 pub fn fence(word: u32) -> Option<Instr>
     requires { opcode_of word ≡ 0x0f }
@@ -215,7 +215,7 @@ fn atomic_of(op: AtomicOp, word: u32) -> Instr
     }
 }
 
-/// What a word of the opcode 2f reads: the atomics.
+/// What a word of the opcode 0x2f spells: the atomics, all of which are on words.
 #[inline(always)]
 pub fn atomic(word: u32) -> Option<Instr>
     requires { opcode_of word ≡ 0x2f }
@@ -253,6 +253,7 @@ fn csr_of(op: CsrOp, word: u32) -> Instr
     }
 }
 
+// What a word without operands spells.
 #[inline(always)]
 fn bare(word: u32) -> Option<Instr>
     requires { opcode_of word ≡ 0x73 }
@@ -267,7 +268,7 @@ fn bare(word: u32) -> Option<Instr>
     }
 }
 
-/// What a word of the opcode 73 reads: the CSR instructions, ECALL, EBREAK, MRET and WFI.
+/// What a word of the opcode 0x73 spells: the CSR instructions, ECALL, EBREAK, MRET and WFI.
 #[inline(always)]
 pub fn system(word: u32) -> Option<Instr>
     requires { opcode_of word ≡ 0x73 }
