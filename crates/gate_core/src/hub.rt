@@ -15,9 +15,11 @@ use std::marker::Model;
 /// A log of the last records and a board of verdicts for a few readers, all in one thread.
 #[derive(Drop)]
 pub struct Hub {
+    // the last `cap` records
     log: HeapCircularBuffer<Record>,
     cap: u64,
     appended: u64,
+    // of each reader: how many records it has taken, and what it posted last
     taken: Vec<u64>,
     verdicts: Vec<Verdict>,
     closed: bool,

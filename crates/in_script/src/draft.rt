@@ -36,6 +36,7 @@ impl Model for Draft {
     } };
 }
 
+// The step of the last entry; 0 where there is none.
 fn last_step(entries: &[Entry]) -> u32
     ensures { result ≡ last_step entries.now }
 {
@@ -57,7 +58,7 @@ impl Draft {
         }
     }
 
-    // What a line says that comes next.
+    // What the next line says.
     #[tactic(auto, unfolding(format_model::specs::ScriptReading::line_at))]
     pub(crate) fn line_at(&self, alloc: Global, text: &[u8]) -> Result<Line, Broken>
         ensures { Gives says result (line_at self.now text.now) }

@@ -30,7 +30,7 @@ fn cut(text: &[u8], byte: u8) -> Option<(&[u8], &[u8])>
     }
 }
 
-// What stands before and after the first space.
+// What stands before and after the first space. A text without one makes a bad line.
 pub(crate) fn at_space(text: &[u8]) -> Result<(&[u8], &[u8]), Broken>
     ensures { Gives (λ p. (p.0.now, p.1.now)) result (at_space text.now) }
 {

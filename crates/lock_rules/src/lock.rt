@@ -69,6 +69,7 @@ pub fn set_holder(locks: &mut [Lock], number: u32, holder: Option<u32>)
     }
 }
 
+// The lock, with another holder where it has this number.
 fn with_holder(lock: Lock, number: u32, holder: Option<u32>) -> Lock
     ensures { result ≡ with_holder number holder lock }
 {

@@ -43,9 +43,10 @@ pub struct Locks {
 
 impl SharedByThreads for Locks {}
 
-// So many locks count, and so many ranges.
+// How many locks count, and how many guarded ranges.
 const KEPT: usize = 256;
 
+// The value of the shadow at a guarded byte; it is 0 elsewhere.
 const GUARDED: u8 = 1;
 
 impl Model for Locks {
@@ -135,6 +136,7 @@ impl Locks {
         self.found.kept()
     }
 
+    // Takes in an event. At nearly each there is nothing to do, as one look tells.
     #[inline(always)]
     fn take_in(&mut self, event: &Event)
         requires { Fits self.old.ram_kib event.now }
@@ -145,7 +147,7 @@ impl Locks {
         }
     }
 
-    // Whether the event announces nothing and touches nothing that could be guarded, as nearly each.
+    // Whether the event announces nothing and touches nothing that could be guarded, as nearly each does.
     #[inline(always)]
     fn is_calm(&self, event: &Event) -> bool
         requires { Fits self.now.ram_kib event.now }
@@ -191,6 +193,7 @@ impl Locks {
         self.guarded.has_four_clear(address, GUARDED)
     }
 
+    // Takes in an event, whatever it is.
     #[inline(never)]
     fn take_in_whole(&mut self, event: &Event)
         ensures { self.new ≡ after self.old event.now }
@@ -255,6 +258,7 @@ impl Locks {
         }
     }
 
+    // The context acquires a lock. Where the lock counts, it is a finding if it is held.
     fn acquire(&mut self, step: u32, pc: u32, lock: u32) -> Option<Finding>
         ensures finding { result
             ≡ option_map (finding_at step pc) (heard self.old (Some (announce.Acquire lock))) }
@@ -275,6 +279,7 @@ impl Locks {
         }
     }
 
+    // The context releases a lock. Where the lock counts, it is a finding if the context does not hold it.
     fn release(&mut self, step: u32, pc: u32, lock: u32) -> Option<Finding>
         ensures finding { result
             ≡ option_map (finding_at step pc) (heard self.old (Some (announce.Release lock))) }
@@ -296,6 +301,7 @@ impl Locks {
         }
     }
 
+    // A lock guards `size` bytes from `start` on, where it counts.
     fn guard(&mut self, start: u32, size: u32, lock: u32)
         ensures { self.new ≡ told_state self.old (Some (announce.Guard start size lock)) }
     {
@@ -305,6 +311,7 @@ impl Locks {
         }
     }
 
+    // Adds a guarded range, where there is room.
     #[tactic(auto, unfolding(analysis_model::specs::Locks::locks_kept))]
     fn add_guard(&mut self, start: u32, size: u32, place: usize)
         ensures { self.new
@@ -335,6 +342,7 @@ impl Locks {
         }
     }
 
+    // The guest goes on in this context, where there is such a one.
     fn enter(&mut self, context: u32)
         ensures { self.new ≡ told_state self.old (Some (announce.Enter context)) }
     {
