@@ -6,6 +6,7 @@ ghost use Rattle.analysis_model.specs.Cover.{CodeRange};
 use run_events::{EndCause, Finding, FindingKind, Kind};
 use text_line::Line;
 
+// The first line that is not empty.
 #[tactic(auto, unfolding(analysis_model::specs::Report::title_line))]
 pub(crate) fn title() -> Line
     ensures { result ≡ title_line }
@@ -13,6 +14,7 @@ pub(crate) fn title() -> Line
     Line::new().text("== aftersight report").ended()
 }
 
+// How many steps the run had.
 #[tactic(auto, unfolding(analysis_model::specs::Report::steps_line))]
 pub(crate) fn steps(steps: u32) -> Line
     ensures { result ≡ steps_line steps }
@@ -20,6 +22,7 @@ pub(crate) fn steps(steps: u32) -> Line
     Line::new().text("steps ").number(steps as u64).ended()
 }
 
+// Why the run ended.
 #[tactic(auto, unfolding(analysis_model::specs::Report::end_line))]
 pub(crate) fn end(cause: EndCause) -> Line
     ensures { result ≡ end_line cause }
@@ -30,6 +33,7 @@ pub(crate) fn end(cause: EndCause) -> Line
     }
 }
 
+// How many bytes of output were issued, and how many of them went out.
 #[tactic(auto, unfolding(analysis_model::specs::Report::output_line))]
 pub(crate) fn output(issued: u32, released: u32) -> Line
     ensures { result ≡ output_line issued released }
@@ -42,6 +46,7 @@ pub(crate) fn output(issued: u32, released: u32) -> Line
         .ended()
 }
 
+// How many records the log had.
 #[tactic(auto, unfolding(analysis_model::specs::Report::records_line))]
 pub(crate) fn records(items: u64) -> Line
     ensures { result ≡ records_line items }
@@ -49,6 +54,7 @@ pub(crate) fn records(items: u64) -> Line
     Line::new().text("records ").number(items).ended()
 }
 
+// The name of an analysis.
 #[tactic(auto, unfolding(analysis_model::specs::Report::kind_name))]
 fn kind_name(kind: Kind) -> &'static str
     ensures text { result.now ≡ kind_name kind }
@@ -63,6 +69,7 @@ fn kind_name(kind: Kind) -> &'static str
     }
 }
 
+// The name of what a finding complains of.
 #[tactic(auto, unfolding(analysis_model::specs::Report::finding_name))]
 fn finding_name(kind: FindingKind) -> &'static str
     ensures text { result.now ≡ finding_name kind }
@@ -82,7 +89,7 @@ fn finding_name(kind: FindingKind) -> &'static str
     }
 }
 
-// The line with a step more, or with the word that there is none.
+// The line with a step added, or with `none` where there is none.
 #[tactic(auto, unfolding(analysis_model::specs::Report::step_text))]
 fn with_step(line: Line, step: Option<u32>) -> Line
     requires { length line + 20 ≤ 128 }
@@ -95,6 +102,7 @@ fn with_step(line: Line, step: Option<u32>) -> Line
     }
 }
 
+// How many findings an analysis has, and the step of the first.
 #[tactic(auto, unfolding(analysis_model::specs::Report::findings_line))]
 pub(crate) fn findings(kind: Kind, count: u64, first: Option<u32>) -> Line
     ensures { result ≡ findings_line kind count first }
@@ -107,6 +115,7 @@ pub(crate) fn findings(kind: Kind, count: u64, first: Option<u32>) -> Line
     with_step(counted, first).ended()
 }
 
+// Of calls: how many returns answer no call.
 #[tactic(auto, unfolding(analysis_model::specs::Report::unmatched_line))]
 pub(crate) fn unmatched(count: u64) -> Line
     ensures { result ≡ unmatched_line count }
@@ -114,6 +123,7 @@ pub(crate) fn unmatched(count: u64) -> Line
     Line::new().text("calls unmatched ").number(count).ended()
 }
 
+// Of coverage: how many pc values were executed, and how many ranges they make up.
 #[tactic(auto, unfolding(analysis_model::specs::Report::pcs_line))]
 pub(crate) fn pcs(pcs: u64, ranges: u64) -> Line
     ensures { result ≡ pcs_line pcs ranges }
@@ -126,6 +136,7 @@ pub(crate) fn pcs(pcs: u64, ranges: u64) -> Line
         .ended()
 }
 
+// Of coverage: a range, from its first address to the one after its last.
 #[tactic(auto, unfolding(analysis_model::specs::Report::range_line))]
 pub(crate) fn range(from: u32, to: u32) -> Line
     ensures { result ≡ range_line (record { from = from; to = to }) }
@@ -138,6 +149,7 @@ pub(crate) fn range(from: u32, to: u32) -> Line
         .ended()
 }
 
+// One finding.
 #[tactic(auto, unfolding(analysis_model::specs::Report::finding_line))]
 pub(crate) fn finding(kind: Kind, finding: &Finding) -> Line
     ensures { result ≡ finding_line kind finding.now }

@@ -8,7 +8,7 @@ use in_script::ScriptFault;
 use run_inputs::InputFault;
 use text_line::Line;
 
-/// A put of the output failed.
+/// The line that tells that a put of the output failed.
 #[tactic(auto, unfolding(crate::specs::Lines::output_failed_line))]
 pub fn output_failed() -> Line
     ensures { result ≡ output_failed_line }
