@@ -17,6 +17,7 @@ impl Csrs {
         self.mepc = pc;
         self.mcause = cause;
         self.mtval = value;
+        // the lower two bits of mtvec are its mode, and the upper bit of a cause says that it is an interrupt
         let base = self.mtvec - self.mtvec % 4;
         if self.mtvec % 2 == 1 && cause >= 0x8000_0000 {
             base.wrapping_add((cause % 0x8000_0000).wrapping_mul(4))
