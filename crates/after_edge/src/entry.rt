@@ -70,10 +70,7 @@ impl Entry {
         if room <= self.room {
             return Ok(());
         }
-        match self.bytes.reserve(room - self.bytes.len()) {
-            Ok(()) => {}
-            Err(failed) => return Err(failed),
-        }
+        self.bytes.reserve(room - self.bytes.len())?;
         self.room = room;
         Ok(())
     }
@@ -105,10 +102,7 @@ impl Entry {
         ensures within { length bytes.now ≤ self.old.room → IsOk result }
         ensures err { OnErr result (self.new ≡ self.old) }
     {
-        match self.reserve(bytes.len()) {
-            Ok(()) => {}
-            Err(failed) => return Err(failed),
-        }
+        self.reserve(bytes.len())?;
         self.begin();
         append_reserved(&mut self.bytes, bytes);
         Ok(())

@@ -68,10 +68,9 @@ impl MemorySink {
 fn limit_of(plan: &[(u64, usize)], number: u64) -> Option<usize>
     ensures { result ≡ planned_limit plan.now number }
 {
-    match plan.iter().find(|pair| pair.0 == number) {
-        Some(pair) => Some(pair.1),
-        None => None,
-    }
+    plan.iter()
+        .find(|pair| pair.0 == number)
+        .map(|pair| pair.1)
 }
 
 // What of the piece is added.
