@@ -67,13 +67,11 @@ impl Draft {
             return Ok(Line::Blank);
         }
         let is_first = self.entries.is_empty();
-        match after(text, b"clock ") {
-            Some(period) => return clock_at(self.clock.is_none() && is_first, period),
-            None => {}
+        if let Some(period) = after(text, b"clock ") {
+            return clock_at(self.clock.is_none() && is_first, period);
         }
-        match after(text, b"sectors ") {
-            Some(numbers) => return sectors_at(is_first, self.sectors.len(), numbers),
-            None => {}
+        if let Some(numbers) = after(text, b"sectors ") {
+            return sectors_at(is_first, self.sectors.len(), numbers);
         }
         match after(text, b"at ") {
             Some(rest) => entry_at(alloc, last_step(&self.entries), self.entries.len(), rest),

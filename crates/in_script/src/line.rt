@@ -94,21 +94,17 @@ fn latency_at(text: &[u8]) -> Result<What, Broken>
 fn what_at(alloc: Global, text: &[u8]) -> Result<What, Broken>
     ensures { Gives arrives result (what_at text.now) }
 {
-    match after(text, b"serial ") {
-        Some(hex) => return serial_at(alloc, hex, 0),
-        None => {}
+    if let Some(hex) = after(text, b"serial ") {
+        return serial_at(alloc, hex, 0);
     }
-    match after(text, b"marked ") {
-        Some(hex) => return serial_at(alloc, hex, 1),
-        None => {}
+    if let Some(hex) = after(text, b"marked ") {
+        return serial_at(alloc, hex, 1);
     }
-    match after(text, b"line ") {
-        Some(rest) => return text_at(alloc, rest),
-        None => {}
+    if let Some(rest) = after(text, b"line ") {
+        return text_at(alloc, rest);
     }
-    match after(text, b"tick ") {
-        Some(count) => return tick_at(count),
-        None => {}
+    if let Some(count) = after(text, b"tick ") {
+        return tick_at(count);
     }
     match after(text, b"latency ") {
         Some(steps) => latency_at(steps),

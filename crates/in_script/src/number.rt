@@ -9,10 +9,7 @@ use decimal_text::is_number;
 pub(crate) fn number_in(digits: &[u8], least: u32, most: u32) -> Result<u32, Broken>
     ensures { Gives (λ n. n) result (number_in least most digits.now) }
 {
-    match decimal_text::number_in(digits, least, most) {
-        Some(value) => Ok(value),
-        None => Err(Broken::BadNumber),
-    }
+    decimal_text::number_in(digits, least, most).ok_or(Broken::BadNumber)
 }
 
 // The number that a text is. A text that is no digits makes a bad line.
