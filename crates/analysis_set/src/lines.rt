@@ -19,7 +19,7 @@ pub(crate) fn title() -> Line
 pub(crate) fn steps(steps: u32) -> Line
     ensures { result ≡ steps_line steps }
 {
-    Line::new().text("steps ").number(steps as u64).ended()
+    Line::new().text("steps ").number(u64::from(steps)).ended()
 }
 
 // Why the run ended.
@@ -28,7 +28,7 @@ pub(crate) fn end(cause: EndCause) -> Line
     ensures { result ≡ end_line cause }
 {
     match cause {
-        EndCause::Power { status } => Line::new().text("end power ").number(status as u64).ended(),
+        EndCause::Power { status } => Line::new().text("end power ").number(u64::from(status)).ended(),
         EndCause::Limit => Line::new().text("end limit").ended(),
     }
 }
@@ -40,9 +40,9 @@ pub(crate) fn output(issued: u32, released: u32) -> Line
 {
     Line::new()
         .text("output ")
-        .number(issued as u64)
+        .number(u64::from(issued))
         .text(" released ")
-        .number(released as u64)
+        .number(u64::from(released))
         .ended()
 }
 
@@ -97,7 +97,7 @@ fn with_step(line: Line, step: Option<u32>) -> Line
     ensures size { length result ≤ length line + 20 }
 {
     match step {
-        Some(step) => line.number(step as u64),
+        Some(step) => line.number(u64::from(step)),
         None => line.text("none"),
     }
 }
@@ -159,7 +159,7 @@ pub(crate) fn finding(kind: Kind, finding: &Finding) -> Line
         .text(" ")
         .text(finding_name(finding.kind))
         .text(" at ")
-        .number(finding.step as u64)
+        .number(u64::from(finding.step))
         .text(" pc ")
         .hexadecimal(finding.pc)
         .text(" addr ")

@@ -264,7 +264,7 @@ impl Locks {
             ≡ option_map (finding_at step pc) (heard self.old (Some (announce.Acquire lock))) }
         ensures state { self.new ≡ told_state self.old (Some (announce.Acquire lock)) }
     {
-        self.name(lock);
+        self.note_lock(lock);
         let is_bad = is_known(&self.locks, lock) && holder_of(&self.locks, lock).is_some();
         set_holder(&mut self.locks, lock, Some(self.context));
         if is_bad {
@@ -285,7 +285,7 @@ impl Locks {
             ≡ option_map (finding_at step pc) (heard self.old (Some (announce.Release lock))) }
         ensures state { self.new ≡ told_state self.old (Some (announce.Release lock)) }
     {
-        self.name(lock);
+        self.note_lock(lock);
         let holder = holder_of(&self.locks, lock);
         let is_bad = is_known(&self.locks, lock) && !is_held_by(holder, self.context);
         set_holder(&mut self.locks, lock, None);
@@ -305,7 +305,7 @@ impl Locks {
     fn guard(&mut self, start: u32, size: u32, lock: u32)
         ensures { self.new ≡ told_state self.old (Some (announce.Guard start size lock)) }
     {
-        self.name(lock);
+        self.note_lock(lock);
         if let Some(place) = place_of(&self.locks, lock) {
             self.add_guard(start, size, place);
         }
@@ -331,7 +331,7 @@ impl Locks {
 
     // Lets the lock count, where it is new and there is room.
     #[tactic(auto, unfolding(analysis_model::specs::Locks::locks_kept))]
-    fn name(&mut self, number: u32)
+    fn note_lock(&mut self, number: u32)
         ensures { self.new ≡ record self.old { locks = known_with self.old.locks (Some number) } }
     {
         if !is_known(&self.locks, number) && self.locks.len() < KEPT {

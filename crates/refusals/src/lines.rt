@@ -37,7 +37,7 @@ pub(crate) fn words(fault: WordsFault) -> Line
     match fault {
         WordsFault::Word { number } => Line::new()
             .text("words: word ")
-            .number(number as u64)
+            .number(u64::from(number))
             .ended(),
         WordsFault::Missing => Line::new().text("words: missing").ended(),
     }
@@ -94,7 +94,7 @@ fn image(fault: ImageFault) -> Line
         ImageFault::Short { need } => Line::new().text("image: short need ").number(need).ended(),
         ImageFault::NotThis { field } => Line::new()
             .text("image: not this field ")
-            .number(field as u64)
+            .number(u64::from(field))
             .ended(),
         ImageFault::BadTable => Line::new().text("image: bad table").ended(),
         ImageFault::SegmentShape { index } => segment(index, " shape"),
@@ -113,7 +113,7 @@ fn segment(index: u32, what: &str) -> Line
 {
     Line::new()
         .text("image: segment ")
-        .number(index as u64)
+        .number(u64::from(index))
         .text(what)
         .ended()
 }
@@ -124,9 +124,9 @@ fn overlap(first: u32, second: u32) -> Line
 {
     Line::new()
         .text("image: segments ")
-        .number(first as u64)
+        .number(u64::from(first))
         .text(" ")
-        .number(second as u64)
+        .number(u64::from(second))
         .text(" overlap")
         .ended()
 }
@@ -150,7 +150,7 @@ fn script_line(line: u32, what: &str) -> Line
 {
     Line::new()
         .text("script: line ")
-        .number(line as u64)
+        .number(u64::from(line))
         .text(what)
         .ended()
 }
