@@ -68,9 +68,7 @@ impl MemorySink {
 fn limit_of(plan: &[(u64, usize)], number: u64) -> Option<usize>
     ensures { result ≡ planned_limit plan.now number }
 {
-    plan.iter()
-        .find(|pair| pair.0 == number)
-        .map(|pair| pair.1)
+    plan.iter().find(|pair| pair.0 == number).map(|pair| pair.1)
 }
 
 // What of the piece is added.

@@ -28,7 +28,10 @@ pub(crate) fn end(cause: EndCause) -> Line
     ensures { result ≡ end_line cause }
 {
     match cause {
-        EndCause::Power { status } => Line::new().text("end power ").number(u64::from(status)).ended(),
+        EndCause::Power { status } => Line::new()
+            .text("end power ")
+            .number(u64::from(status))
+            .ended(),
         EndCause::Limit => Line::new().text("end limit").ended(),
     }
 }

@@ -12,6 +12,7 @@ use memory_map::{GRAIN, high_half, low_half, with_high, with_low};
 
 // The bits of mstatus that hold something, by their numbers. (Privileged manual, 3.1.6.)
 const STATUS_MIE: u32 = 3;
+
 const STATUS_MPIE: u32 = 7;
 
 // The previous mode in mstatus, which is machine mode always.
@@ -19,6 +20,7 @@ const STATUS_MPP: u32 = 0x1800;
 
 // The bits of the timer's and of the external interrupt in mie and mip, by their numbers. (Privileged manual, 3.1.9.)
 const TIMER: u32 = 7;
+
 const EXTERNAL: u32 = 11;
 
 // What misa reads: registers of 32 bits, and the letters A, I and M. (Privileged manual, 3.1.1.)
