@@ -114,6 +114,7 @@ fn put_entries(out: &mut Vec<u8>, entries: &[Entry]) -> Result<(), NoMemory>
     Ok(())
 }
 
+// The canonical text of a script, as `print` says.
 #[tactic(auto, unfolding(format_model::specs::Script::printed))]
 fn printed(alloc: Global, script: &Script) -> Result<Vec<u8>, NoMemory>
     ensures { IfOk result (λ text. text.items ≡ printed script.now) }

@@ -16,6 +16,7 @@ pub fn output_failed() -> Line
     Line::new().text("output failed").ended()
 }
 
+// The words are a job that is not built.
 #[tactic(auto, unfolding(crate::specs::Lines::not_built_line))]
 pub(crate) fn not_built() -> Line
     ensures { result ≡ not_built_line }
@@ -23,6 +24,7 @@ pub(crate) fn not_built() -> Line
     Line::new().text("not built").ended()
 }
 
+// There was no memory.
 #[tactic(auto, unfolding(crate::specs::Lines::no_memory_line))]
 pub(crate) fn no_memory() -> Line
     ensures { result ≡ no_memory_line }
@@ -30,6 +32,7 @@ pub(crate) fn no_memory() -> Line
     Line::new().text("no memory").ended()
 }
 
+// What is wrong with words: which one is bad, or that one is missing.
 #[tactic(auto, unfolding(crate::specs::Lines::words_line))]
 pub(crate) fn words(fault: WordsFault) -> Line
     ensures { result ≡ words_line fault }
@@ -86,6 +89,7 @@ fn disk_long() -> Line
     Line::new().text("disk: too long").ended()
 }
 
+// What is wrong with an image.
 #[tactic(auto, unfolding(crate::specs::Lines::image_line))]
 fn image(fault: ImageFault) -> Line
     ensures { result ≡ image_line fault }
@@ -106,6 +110,7 @@ fn image(fault: ImageFault) -> Line
     }
 }
 
+// What is wrong with the segment of this header.
 #[tactic(auto, unfolding(crate::specs::Lines::segment_line))]
 fn segment(index: u32, what: &str) -> Line
     requires { length what.now ≤ 16 }
@@ -118,6 +123,7 @@ fn segment(index: u32, what: &str) -> Line
         .ended()
 }
 
+// The segments of these headers share an address.
 #[tactic(auto, unfolding(crate::specs::Lines::overlap_line))]
 fn overlap(first: u32, second: u32) -> Line
     ensures { result ≡ overlap_line first second }
@@ -131,6 +137,7 @@ fn overlap(first: u32, second: u32) -> Line
         .ended()
 }
 
+// What is wrong with a script.
 fn script(fault: ScriptFault) -> Line
     ensures { result ≡ script_fault_line fault }
 {
@@ -143,6 +150,7 @@ fn script(fault: ScriptFault) -> Line
     }
 }
 
+// What is wrong with this line of a script.
 #[tactic(auto, unfolding(crate::specs::Lines::script_line))]
 fn script_line(line: u32, what: &str) -> Line
     requires { length what.now ≤ 16 }

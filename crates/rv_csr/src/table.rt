@@ -50,6 +50,7 @@ fn is_read_only(address: u32) -> bool
 }
 
 impl Csrs {
+    // Keeps of a value what mstatus holds.
     fn set_mstatus(&mut self, value: u32)
         ensures { self.new ≡ model.with_mstatus self.old value }
     {
@@ -57,6 +58,7 @@ impl Csrs {
         self.interrupts_before = has_bit(STATUS_MPIE, value);
     }
 
+    // Keeps of a value what mie holds.
     fn set_mie(&mut self, value: u32)
         ensures { self.new ≡ model.with_mie self.old value }
     {
@@ -64,6 +66,7 @@ impl Csrs {
         self.external_enabled = has_bit(EXTERNAL, value);
     }
 
+    // Gives mcycle a value, which the end of this step leaves alone.
     fn set_mcycle(&mut self, counter: u64)
         ensures { self.new ≡ model.with_mcycle self.old counter }
     {
@@ -71,6 +74,7 @@ impl Csrs {
         self.mcycle_written = true;
     }
 
+    // Gives minstret a value, which the end of this step leaves alone.
     fn set_minstret(&mut self, counter: u64)
         ensures { self.new ≡ model.with_minstret self.old counter }
     {

@@ -21,6 +21,7 @@ pub fn decode(word: u32) -> Option<Instr>
     by_opcode(word)
 }
 
+// What a word spells, an opcode at a time.
 #[tactic(auto, using(crate::proofs::ListingLaws::opcodes))]
 #[inline(always)]
 fn by_opcode(word: u32) -> Option<Instr>

@@ -43,6 +43,7 @@ pub fn branch(word: u32) -> Option<Instr>
     Some(Instr::Branch { op, rs1, rs2, imm })
 }
 
+// The load of a word, with this operation.
 #[inline(always)]
 fn load_of(op: LoadOp, word: u32) -> Instr
     ensures { result ≡ load_row op word }
@@ -72,6 +73,7 @@ pub fn load(word: u32) -> Option<Instr>
     Some(load_of(op, word))
 }
 
+// The store of a word, with this operation.
 #[inline(always)]
 fn store_of(op: StoreOp, word: u32) -> Instr
     ensures { result ≡ store_row op word }
@@ -135,6 +137,7 @@ pub fn immediate(word: u32) -> Option<Instr>
     Some(Instr::OpImm { op, rd, rs1, imm })
 }
 
+// The operation on registers of a word, with this operation.
 #[inline(always)]
 fn register_of(op: RegOp, word: u32) -> Instr
     ensures { result ≡ register_row op word }
@@ -177,6 +180,7 @@ pub fn register(word: u32) -> Option<Instr>
     Some(register_of(op, word))
 }
 
+// The fence of a word, with this operation.
 #[inline(always)]
 fn fence_of(op: FenceOp, word: u32) -> Instr
     ensures { result ≡ fence_row op word }
@@ -202,6 +206,7 @@ pub fn fence(word: u32) -> Option<Instr>
     }
 }
 
+// The atomic of a word, with this operation.
 #[inline(always)]
 fn atomic_of(op: AtomicOp, word: u32) -> Instr
     ensures { result ≡ atomic_row op word }
@@ -241,6 +246,7 @@ pub fn atomic(word: u32) -> Option<Instr>
     Some(atomic_of(op, word))
 }
 
+// The CSR instruction of a word, with this operation.
 #[inline(always)]
 fn csr_of(op: CsrOp, word: u32) -> Instr
     ensures { result ≡ csr_row op word }

@@ -10,9 +10,13 @@ use rv_memory::Ram;
 /// What the disk is at: a command completes before the step `before`.
 #[derive(Clone, Copy)]
 pub enum Activity {
+    /// No command was given, or the last one was acknowledged.
     Idle,
+    /// A command is being done.
     Busy { before: u64 },
+    /// A command was done.
     Done,
+    /// A command was refused.
     Refused,
 }
 
@@ -22,6 +26,7 @@ pub struct Disk {
     pub bytes: Vec<u8>,
     // the sectors whose words are marked
     pub sectors: Vec<Span>,
+    // what the registers of these names hold
     pub sector: u32,
     pub address: u32,
     pub control: u32,
@@ -204,7 +209,10 @@ impl Disk {
         ensures sent { self.new.pending.sent ≡ 512 }
     {
         let at = SECTOR_BYTES * self.sector as usize;
-        self.bytes[at..at + SECTOR_BYTES].copy_from_slice(ram.bytes(self.address, SECTOR_BYTES as u32));
+        self.bytes[at..at + SECTOR_BYTES].copy_from_slice(ram.bytes(
+            self.address,
+            SECTOR_BYTES as u32,
+        ));
         self.pending.sent = SECTOR_BYTES;
         self.pending.address = self.address;
         self.activity = Activity::Busy { before };
