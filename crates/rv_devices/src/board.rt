@@ -28,7 +28,7 @@ pub struct Board {
     serial_control: u32,
 }
 
-// A flag as this bit.
+// This bit where the flag is set, else 0.
 fn bit(flag: bool, value: u8) -> u8
     ensures { result ≡ (if flag then value else 0) }
 {
