@@ -28,7 +28,7 @@ impl Model for Turns {
     ghost invariant = { λ t. t.used ≤ 64 };
 }
 
-// Whether the letter names one of so many followers, or none.
+// Whether the letter, where it is a follower's, names one of so many.
 fn is_letter(letter: Letter, readers: u32) -> bool
     ensures { result ≡ is_letter readers letter }
 {
