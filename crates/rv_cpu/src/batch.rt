@@ -35,7 +35,7 @@ fn count_steps(csrs: &mut Csrs, count: u32)
 impl Engine {
     // Writes a register, and goes on to the instruction after this one.
     #[inline(always)]
-    fn give(&mut self, size: u32, pc: u32, rd: u32, value: u32) -> Option<u32>
+    fn batch_write(&mut self, size: u32, pc: u32, rd: u32, value: u32) -> Option<u32>
         requires { IsRegister rd }
         ensures { going result (from self.new pc)
             ≡ goes (from self.old pc) (Does (model.writing (from self.old pc) size rd value)) }
@@ -46,7 +46,7 @@ impl Engine {
 
     // Goes to a target, with the address of the instruction after this one in rd, if an instruction can begin there.
     #[inline(always)]
-    fn leap(&mut self, size: u32, pc: u32, rd: u32, target: u32) -> Option<u32>
+    fn batch_jump(&mut self, size: u32, pc: u32, rd: u32, target: u32) -> Option<u32>
         requires { IsRegister rd }
         ensures { going result (from self.new pc)
             ≡ goes_plainly (from self.old pc) (model.jumping (from self.old pc) size rd target) }
@@ -60,7 +60,7 @@ impl Engine {
 
     // Goes to a target where the test on two registers holds; else on.
     #[inline(always)]
-    fn fork(&mut self, size: u32, pc: u32, taken: bool, target: u32) -> Option<u32>
+    fn batch_branch(&mut self, size: u32, pc: u32, taken: bool, target: u32) -> Option<u32>
         ensures { going result (from self.new pc)
             ≡ goes_plainly (from self.old pc)
             (if taken
@@ -68,9 +68,9 @@ impl Engine {
             else Does (model.going_on (from self.old pc) size)) }
     {
         if taken {
-            self.leap(size, pc, 0, target)
+            self.batch_jump(size, pc, 0, target)
         } else {
-            self.give(size, pc, 0, 0)
+            self.batch_write(size, pc, 0, 0)
         }
     }
 
@@ -98,7 +98,7 @@ impl Engine {
             return None;
         }
         let value = self.ram.load(address, width);
-        self.give(size, pc, rd, alu::loaded(op, value))
+        self.batch_write(size, pc, rd, alu::loaded(op, value))
     }
 
     // The same, with a body of its own for each operation, in which the compiler knows the width.
@@ -153,7 +153,7 @@ impl Engine {
         }
         let value = low_bytes(width, self.register(rs2));
         self.ram.store(address, width, value);
-        self.give(size, pc, 0, 0)
+        self.batch_write(size, pc, 0, 0)
     }
 
     // The same, with a body of its own for each operation.
@@ -190,18 +190,23 @@ impl Engine {
         ensures { going result (from self.new pc) ≡ goes_by (from self.old pc) size instr }
     {
         match instr {
-            Instr::Lui { rd, imm } => self.give(size, pc, rd, imm.cast_unsigned()),
+            Instr::Lui { rd, imm } => self.batch_write(size, pc, rd, imm.cast_unsigned()),
             Instr::Auipc { rd, imm } => {
-                self.give(size, pc, rd, pc.wrapping_add(imm.cast_unsigned()))
+                self.batch_write(size, pc, rd, pc.wrapping_add(imm.cast_unsigned()))
             }
-            Instr::Jal { rd, imm } => self.leap(size, pc, rd, pc.wrapping_add(imm.cast_unsigned())),
+            Instr::Jal { rd, imm } => self.batch_jump(
+                size,
+                pc,
+                rd,
+                pc.wrapping_add(imm.cast_unsigned()),
+            ),
             Instr::Jalr { rd, rs1, imm } => {
                 let sum = self.register(rs1).wrapping_add(imm.cast_unsigned());
-                self.leap(size, pc, rd, sum - sum % 2)
+                self.batch_jump(size, pc, rd, sum - sum % 2)
             }
             Instr::Branch { op, rs1, rs2, imm } => {
                 let taken = self.takes_branch(op, rs1, rs2);
-                self.fork(size, pc, taken, pc.wrapping_add(imm.cast_unsigned()))
+                self.batch_branch(size, pc, taken, pc.wrapping_add(imm.cast_unsigned()))
             }
             Instr::Load { op, rd, rs1, imm } => {
                 self.batch_load(size, pc, op, rd, rs1, imm.cast_unsigned())
@@ -211,11 +216,11 @@ impl Engine {
             }
             Instr::OpImm { op, rd, rs1, imm } => {
                 let value = self.immediate(op, rs1, imm.cast_unsigned());
-                self.give(size, pc, rd, value)
+                self.batch_write(size, pc, rd, value)
             }
             Instr::Op { op, rd, rs1, rs2 } => {
                 let value = alu::register(op, self.register(rs1), self.register(rs2));
-                self.give(size, pc, rd, value)
+                self.batch_write(size, pc, rd, value)
             }
             _ => None,
         }

@@ -487,7 +487,7 @@ impl Taint {
         ensures { self.new ≡ with_given self.old
             (marked_by (mark_now self.old) (atomic_writes op rd rs2 access.now)) }
     {
-        let old = self.old(access);
+        let old = self.old_mark(access);
         match op {
             AtomicOp::Lr => self.load(rd, access),
             AtomicOp::Sc => self.swap(rd, 0, access, self.register(rs2)),
@@ -507,7 +507,7 @@ impl Taint {
     }
 
     // The mark of the bytes that an atomic operation reads.
-    fn old(&self, access: &Access) -> u8
+    fn old_mark(&self, access: &Access) -> u8
         requires { AccessFits self.now.ram_kib access.now }
         ensures { result ≡ union_of (mark_now self.now) (old_bytes access.now) }
     {
