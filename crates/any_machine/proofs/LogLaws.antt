@@ -1,7 +1,7 @@
 -- What is said of logs and of lists that fit: they are in order, their records have spellings, and a prefix says what the
 -- whole says of the steps below its reach.
 use Rattle.std.proofs.Common.{◌≡◌, ℕ, suc, ◌+◌, ◌<◌, ◌≤◌, Bool, true, false, not, cond, List, [], ◌∷◌, ◌++◌, length, map, reverse, Option, Some, None, refl, sym, ap, subst, ◌∙◌, arith, append-nil}
-use Rattle.std.specs.Prelude.{◌&&◌, ◌||◌, ◌==◌, ◌%◌, nat_lt, is_some}
+use Rattle.std.specs.Prelude.{◌&&◌, ◌||◌, ◌==◌, nat_lt}
 use Rattle.std.specs.List.{AllByRecursion}
 use Rattle.std.proofs.lemmas.Bool.{and_parts}
 use Rattle.std.proofs.lemmas.Bool.Decides.{nat_tests}
@@ -14,7 +14,7 @@ use Rattle.run_events.specs.declared.supply.DmaWord.{DmaWord}
 use Rattle.run_events.specs.declared.supply.Supplied.{Supplied}
 use Rattle.run_events.specs.Record.{number, rank, is_dma, is_end, IsNumber, IsMark, IsRecord, is_admitted, is_ordered, is_ordered_back, reach_back}
 use Rattle.run_events.proofs.RecordLaws.{admitted_rises}
-use Rattle.any_machine.specs.Machine.{Machine, Input, Turn, IsInput, IsMarked, serial_byte, power_status, touched, after}
+use Rattle.any_machine.specs.Machine.{Machine, Input, Turn, IsInput, IsMarked, power_status, touched, after}
 use Rattle.any_machine.specs.Run.{Finished, EndsOrGoes, IsRun, Runs}
 use Rattle.any_machine.specs.Log.{word_record, lines_records, load_records, reach_records, turn_records, turns_log, log, tells_reach}
 use Rattle.any_machine.specs.Tape.{tape_of, words_at}

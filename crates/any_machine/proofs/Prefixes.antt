@@ -1,6 +1,6 @@
 -- Each prefix of a run's own log is taken whole: the records of the run are pushed one after another.
 use Rattle.std.proofs.Common.{◌≡◌, ◌⊎◌, inl, inr, ℕ, zero, suc, ◌<◌, ◌≤◌, Bool, true, false, cond, List, [], ◌∷◌, ◌++◌, length, drop, map, reverse, Option, Some, None, refl, sym, ap, subst, ◌∙◌, arith, below_more, append_assoc, append-nil, length-append, length-drop}
-use Rattle.std.specs.Prelude.{◌==◌, ◌%◌, ◌&&◌, ◌||◌, nat_le, is_some, slice_get}
+use Rattle.std.specs.Prelude.{◌==◌, ◌&&◌, nat_le, slice_get}
 use Rattle.std.proofs.lemmas.Bool.Decides.{nat_tests}
 use Rattle.std.proofs.lemmas.List.{reverse-append}
 use Rattle.std.proofs.lemmas.Option.{slice_get_within}
@@ -16,7 +16,7 @@ use Rattle.run_events.specs.declared.record.Record.TheVariants.{Load, Lines, Rea
 use Rattle.run_events.specs.declared.supply.DmaWord.{DmaWord}
 use Rattle.run_events.specs.declared.supply.Supplied.{Supplied}
 use Rattle.run_events.specs.Record.{dmas_at, reach_back}
-use Rattle.any_machine.specs.Machine.{Machine, Input, Turn, serial_byte, power_status}
+use Rattle.any_machine.specs.Machine.{Machine, Input, Turn, power_status}
 use Rattle.any_machine.specs.Run.{Finished, IsRun, Runs}
 use Rattle.any_machine.specs.Log.{word_record, lines_records, load_records, reach_records, turns_log, log, tells_reach}
 use Rattle.any_machine.specs.Tape.{tape_of, words_at}

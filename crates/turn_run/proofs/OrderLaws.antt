@@ -60,7 +60,7 @@ module _ {M F S : Type 0} (r : Recording M) (f : Following F) (sink : Telling S)
     }
 
     -- a last turn that it has ended
-    pub fails_last : IsReadOut mid → ((c : Course) (core : CoreState) → IsAt r f c core mid → HasBroken r f c core after sink now new) → FailsBy r f sink turns before after old new
+    pub fails_last : IsReadOut mid → ((c : Course) (core : CoreState) → IsAt r f c core mid → HasBroken r f c core mid after sink now new) → FailsBy r f sink turns before after old new
     fails_last over broken = record {
       periods = so_far.0;
       place = 0;
