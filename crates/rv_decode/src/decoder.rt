@@ -1,6 +1,5 @@
 //! From a word to an instruction.
-ghost use Rattle.std.specs.Prelude.{◌≡◌, ℕ, ◌%◌, ◌^◌, ◌++◌, ◌≤◌, count_by, IfSome};
-ghost use Rattle.rv_decode.specs.Fields.{opcode_of};
+ghost use Rattle.std.specs.Prelude.{◌≡◌, ◌%◌, ◌≤◌, count_by, IfSome};
 ghost use Rattle.rv_decode.specs.Listing.{meets, rows, instruction};
 ghost use Rattle.rv_decode.specs.Valid.{IsValid};
 ghost use Rattle.rv_decode.specs.Words.{encoded};

@@ -1,8 +1,8 @@
 //! The instructions of each opcode, and none where a word of the opcode spells none. (Unprivileged manual, chapter 24.)
-ghost use Rattle.std.specs.Prelude.{◌≡◌, ◌⊎◌, ℕ, ◌%◌, ◌^◌, ◌++◌};
+ghost use Rattle.std.specs.Prelude.{◌≡◌, ◌⊎◌, ◌++◌};
 ghost use Rattle.rv_decode.specs.Fields.{opcode_of, funct3_of};
 ghost use Rattle.rv_decode.specs.Listing.{read_by, jalrs, branches, loads, stores, immediates, registers, fences, atomics, csrs, bares};
-ghost use Rattle.rv_decode.specs.Listing.{branch as branch_row, load as load_row, store as store_row, immediate as immediate_row, shift as shift_row, register as register_row, fence as fence_row, atomic as atomic_row, csr as csr_row};
+ghost use Rattle.rv_decode.specs.Listing.{load as load_row, store as store_row, register as register_row, fence as fence_row, atomic as atomic_row, csr as csr_row};
 
 use crate::fields::{funct3, imm_b, imm_i, imm_s, rd, rs1, rs2};
 use crate::instruction::Instr;

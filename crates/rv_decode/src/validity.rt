@@ -1,5 +1,5 @@
 //! Which instructions have a word.
-ghost use Rattle.std.specs.Prelude.{◌≡◌, ◌↔◌, ℕ, ◌<◌, ◌^◌, IsTrue, ℤ, pos, ◌≤ℤ◌, ◌<ℤ◌};
+ghost use Rattle.std.specs.Prelude.{◌↔◌, ◌<◌, ◌^◌, IsTrue};
 ghost use Rattle.rv_decode.specs.Valid.{IsRegister, IsSigned, IsMultiple, IsOperand, IsSecond, IsValid};
 
 use crate::instruction::Instr;
