@@ -1,8 +1,7 @@
 //! A sink in memory, with failures that are planned.
-ghost use Rattle.std.specs.Prelude.{◌≡◌, ◌≤◌, ℕ, List, length, take, min, unwrap_or, vec_len, vec_capacity, is_err, IfOk, OnOk, OnErr};
-ghost use Rattle.after_edge.specs.Fault.{raised};
+ghost use Rattle.std.specs.Prelude.{◌≡◌, ◌≤◌, ℕ, List, length, vec_len, vec_capacity, is_err, IfOk, OnOk, OnErr};
 ghost use Rattle.after_edge.specs.Sink.{Writes, WritesPart};
-ghost use Rattle.after_edge.specs.MemorySink.{SinkState, HoldsBytes, in_memory, empty_sink, planned_limit, part_taken, put_fails, sink_after};
+ghost use Rattle.after_edge.specs.MemorySink.{SinkState, in_memory, empty_sink, planned_limit, part_taken, put_fails, sink_after};
 
 use crate::reserved::append_reserved;
 use crate::{Failed, Sink};

@@ -1,5 +1,5 @@
 //! The host's files.
-ghost use Rattle.std.specs.Prelude.{◌≡◌, ◌<◌, ◌≤◌, ◌↔◌, ℕ, List, length, take, if◌then◌else◌, is_err, IfOk, OnOk, OnErr};
+ghost use Rattle.std.specs.Prelude.{◌≡◌, ◌<◌, ◌≤◌, ◌↔◌, ℕ, List, length, take, is_err, IfOk, OnOk, OnErr};
 ghost use Rattle.std.specs.declared.io.ErrorKind.TheVariants.{NotFound};
 ghost use Rattle.std.specs.IoError.{error_kind};
 ghost use Rattle.after_edge.specs.declared.files.ReadFault.TheVariants.{Absent};
