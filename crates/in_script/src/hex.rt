@@ -1,5 +1,5 @@
 //! Bytes in hexadecimal.
-ghost use Rattle.std.specs.Prelude.{◌≡◌, ◌<◌, IfOk};
+ghost use Rattle.std.specs.Prelude.{◌<◌, IfOk};
 ghost use Rattle.format_model.specs.ScriptReading.{hex_value, pair_at, pairs_at, hex_at};
 ghost use Rattle.in_script.specs.Reads.{Gives};
 
