@@ -1,5 +1,5 @@
 //! RAM, byte by byte.
-ghost use Rattle.memory_map.specs.declared.TheConstants.{LEAST_RAM_KIB, MOST_RAM_KIB};
+ghost use Rattle.memory_map.specs.declared.TheConstants.{LEAST_RAM_KIB, MOST_RAM_BYTES, MOST_RAM_KIB};
 ghost use Rattle.std.specs.Prelude.{◌≡◌, ◌⊎◌, ℕ, ◌+◌, ◌-◌, ◌*◌, ◌^◌, ◌<◌, ◌≤◌, List, length, take, drop, replicate, IfOk};
 ghost use Rattle.std.specs.Int.{w16, w32, from_le_bytes};
 ghost use Rattle.memory_map.specs.Ram.{InRam, IsWidth, in_ram};
@@ -18,8 +18,6 @@ pub struct Ram {
 impl SharedByThreads for Ram {}
 
 impl Model for Ram {
-    ghost use Rattle.memory_map.specs.declared.TheConstants.{MOST_RAM_BYTES};
-
     ghost Value = { List ℕ };
 
     ghost view = { λ r. r.bytes.items };
