@@ -1,5 +1,5 @@
 //! Loads and stores. (Unprivileged manual, 2.6.)
-ghost use Rattle.std.specs.Prelude.{◌≡◌, ℕ, ◌%◌, ◌==◌, ◌&&◌, true, false, length, None, if◌then◌else◌};
+ghost use Rattle.std.specs.Prelude.{◌≡◌, ◌%◌, ◌==◌, ◌&&◌, true, false, length, None, if◌then◌else◌};
 ghost use Rattle.memory_map.specs.Ram.{InRam, IsWidth, in_ram};
 ghost use Rattle.rv_decode.specs.Valid.{IsRegister};
 ghost use Rattle.memory_map.specs.Device.{is_device};

@@ -1,6 +1,6 @@
 //! Plain steps without events: the pc is kept beside the hart, and the counters rise once, at the end.
 ghost use Rattle.memory_map.specs.declared.TheConstants.{MOST_STEPS};
-ghost use Rattle.std.specs.Prelude.{◌≡◌, ℕ, ◌+◌, ◌<◌, ◌≤◌, None, IsTrue, false, if◌then◌else◌};
+ghost use Rattle.std.specs.Prelude.{◌≡◌, ◌+◌, ◌<◌, ◌≤◌, None, IsTrue, false, if◌then◌else◌};
 ghost use Rattle.rv_decode.specs.Valid.{IsRegister, IsValid};
 ghost use Rattle.hart_model.specs.Effect as model;
 ghost use Rattle.hart_model.specs.Effect.{Does};

@@ -1,6 +1,6 @@
 //! The hart as its callers see it.
 ghost use Rattle.memory_map.specs.declared.TheConstants.{MOST_STEPS};
-ghost use Rattle.std.specs.Prelude.{◌≡◌, ◌+◌, ◌*◌, ◌%◌, ◌<◌, ◌≤◌, ℕ, false, None, Some, IfSome, IsTrue, is_some, length, slice_index};
+ghost use Rattle.std.specs.Prelude.{◌≡◌, ◌+◌, ◌*◌, ◌%◌, ◌<◌, ◌≤◌, ℕ, false, Some, IfSome, IsTrue, is_some, length};
 ghost use Rattle.any_machine.specs.Machine.{is_load};
 ghost use Rattle.run_events.specs.Event.{Fits};
 

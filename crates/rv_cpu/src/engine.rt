@@ -1,5 +1,5 @@
 //! The hart's state, and what its instructions take from it and leave in it.
-ghost use Rattle.std.specs.Prelude.{◌≡◌, ℕ};
+ghost use Rattle.std.specs.Prelude.{◌≡◌};
 ghost use Rattle.rv_decode.specs.Valid.{IsRegister};
 
 use run_events::Told;

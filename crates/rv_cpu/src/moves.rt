@@ -1,5 +1,5 @@
 //! Instructions that access no data: they write a register, or go elsewhere. (Unprivileged manual, 2.4 and 2.5.)
-ghost use Rattle.std.specs.Prelude.{◌≡◌, ℕ, if◌then◌else◌};
+ghost use Rattle.std.specs.Prelude.{◌≡◌, if◌then◌else◌};
 ghost use Rattle.rv_decode.specs.Valid.{IsRegister};
 ghost use Rattle.hart_model.specs.Operations.{sum};
 ghost use Rattle.hart_model.specs.Effect as model;
