@@ -1,5 +1,5 @@
 //! The guarded ranges, and the least byte of an access that is not guarded by a lock held.
-ghost use Rattle.std.specs.Prelude.{◌≡◌, ℕ};
+ghost use Rattle.std.specs.Prelude.{◌≡◌};
 ghost use Rattle.list_laws.specs.Least.{is_between, least_from};
 ghost use Rattle.lock_rules.specs.Entries.{is_open_in, is_open};
 ghost use Rattle.lock_rules.specs.Lesser.{lesser};

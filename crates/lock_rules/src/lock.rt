@@ -1,5 +1,5 @@
 //! The locks that count, in the order in which they were first named.
-ghost use Rattle.std.specs.Prelude.{◌≡◌, ◌==◌, Option, None, map, slice_get};
+ghost use Rattle.std.specs.Prelude.{◌≡◌, ◌==◌, Option, None, map};
 ghost use Rattle.std.specs.List.{position_from};
 ghost use Rattle.analysis_model.specs.Locks.{has_lock, is_held_by};
 ghost use Rattle.lock_rules.specs.Entries.{numbers, holder_of, holder_at, with_holder};

@@ -1,8 +1,7 @@
 //! The analysis of locks.
 ghost use Rattle.memory_map.specs.declared.TheConstants.{LEAST_RAM_KIB, MOST_RAM_KIB};
-ghost use Rattle.std.specs.Prelude.{◌≡◌, ℕ, ◌*◌, ◌<◌, ◌≤◌, true, List, [], ◌∷◌, ◌++◌, length, map, Option, None, Some, IfOk};
+ghost use Rattle.std.specs.Prelude.{◌≡◌, ℕ, ◌*◌, ◌<◌, ◌≤◌, true, List, [], ◌∷◌, ◌++◌, length, Option, None, Some, IfOk};
 ghost use Rattle.std.specs.Option.{option_map};
-ghost use Rattle.std.specs.List.{position_from};
 ghost use Rattle.run_events.specs.declared.announcement.Announcement.TheVariants as announce;
 ghost use Rattle.run_events.specs.declared.event.Event.{Event};
 ghost use Rattle.run_events.specs.declared.finding.Kind.TheVariants as kind;
@@ -12,10 +11,10 @@ ghost use Rattle.run_events.specs.Event.{AccessFits, Fits};
 ghost use Rattle.lock_rules.specs.Entries.{is_open};
 ghost use Rattle.analysis_model.specs.Complaints.{findings};
 ghost use Rattle.analysis_model.specs.Findings.{first_step, tally, kept};
-ghost use Rattle.analysis_model.specs.Locks.{locks_kept, bad_acquire, bad_release};
+ghost use Rattle.analysis_model.specs.Locks.{locks_kept};
 ghost use Rattle.analysis_model.specs.Made.{make_of};
 ghost use Rattle.analysis_model.specs.Look.{finding_at};
-ghost use Rattle.lock_rules.specs.State.{Stands, make_now, guest_now, known_with, guards_with, told_state, heard, opened, noted, after};
+ghost use Rattle.lock_rules.specs.State.{Stands, make_now, guest_now, known_with, guards_with, told_state, heard, opened, after};
 
 use crate::guard::{Guard, least_open};
 use crate::lock::{Lock, holder_of, is_held_by, is_known, place_of, set_holder};
