@@ -77,7 +77,7 @@ fn has_finding(closing: &Closing, count: u32) -> bool
     false
 }
 
-// The status of an end, and of whether there is a finding.
+// The exit status of a run that ended so, with a finding or with none.
 fn status_number(end: EndCause, found: bool) -> u8
     ensures { result ≡ status_of end found }
 {
@@ -88,7 +88,7 @@ fn status_number(end: EndCause, found: bool) -> u8
     }
 }
 
-// Writes the report of a run that went to its end. It answers the status.
+// Writes the report of a run that went to its end, and answers the status.
 fn tell<O: Sink>(closing: &Closing, count: u32, out: &mut O) -> Result<u8, Failed>
     requires { IsOver count closing.now }
     ensures status { IfOk result (λ number. (job : Job) → IsWholeRun job closing.now →

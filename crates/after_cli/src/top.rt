@@ -173,8 +173,8 @@ fn end_answer<E: Sink>(answer: Result<JobEnd, Refusal>, err: &mut E) -> Outcome
     }
 }
 
-/// What is wrong with words of which one is no text, by the words before it: the first of them that is bad by itself, or
-/// else the one that is no text.
+/// What is wrong with words of which one is no text, by the words before that one: the first of them that is bad by itself,
+/// or else the one that is no text.
 pub fn refusal_before(words: &[String]) -> Refusal
     ensures { result ≡ Refusal.Words
         (Word (unwrap_or (first_bad_in (map string_bytes words.now)) (length words.now + 1))) }
@@ -194,15 +194,16 @@ pub fn refusal_before(words: &[String]) -> Refusal
 /// - 0, 1, 8: the run was done, and `out` got the job's whole text. 0 after power with no finding, 1 with a finding, 8 after
 ///   the step limit with no finding.
 /// - 2: the words are no job.
-/// - 3, 4: the image or the disk, or the script, is refused or too long.
+/// - 3: the image is refused or too long, or the disk is too long.
+/// - 4: the script is refused or too long.
 /// - 5: a file is absent, or `files` failed.
 /// - 6: a put of `out` failed, and its count of faults rose. Some prefix of the job's text was added.
-/// - 9: no memory, for a run whose image is there; no clause says that it was refused.
+/// - 9: no memory, for a run whose image is there; no clause says that the allocator refused any.
 /// - 10: the words are a job that is not built: of another command, or with threads.
 ///
-/// The words are judged first, then what is not built, then the files. With the statuses other than those of a run that was
-/// done, and 6, nothing was added to `out`, and there is no `closing`. `closing` holds the one log and what the replicas
-/// have made of it. After a failed put the log was closed where it stood, and each replica has read to the close.
+/// The words are judged first, then what is not built, then the files. With each status but 0, 1, 8 and 6, nothing was
+/// added to `out`, and there is no `closing`. `closing` holds the one log and what the replicas have made of it. After a
+/// failed put the log was closed where it stood, and each replica has read to the close.
 ///
 /// A refusal, and status 6, writes its line on `err`; a failure of `err` changes no answer. The files' content is as before,
 /// and so is their count of faults where none of their calls failed; where the words are refused they are not called.

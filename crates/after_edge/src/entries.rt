@@ -7,13 +7,14 @@ use crate::entry::Entry;
 use memory_map::NoMemory;
 use std::alloc::Global;
 
-// The first entry of this name.
+// The place of the first entry of this name.
 fn place(entries: &[Entry], name: &str) -> Option<usize>
     ensures { result ≡ position (is_named name.now) entries.now }
 {
     entries.iter().position(|entry| entry.is_named(name))
 }
 
+// Adds an entry; where there is no memory for it, all is as before.
 fn add(entries: &mut Vec<Entry>, entry: Entry) -> Result<(), NoMemory>
     ensures ok { OnOk result (entries.new.items ≡ entries.old.items ++ entry ∷ []) }
     ensures err { OnErr result (entries.new.items ≡ entries.old.items) }
@@ -24,7 +25,7 @@ fn add(entries: &mut Vec<Entry>, entry: Entry) -> Result<(), NoMemory>
     }
 }
 
-// Room for this many bytes at least.
+// Reserves room for this many bytes at least. A name that is new has no file then.
 pub(crate) fn room_at(
     alloc: Global,
     entries: &mut Vec<Entry>,
@@ -46,7 +47,7 @@ pub(crate) fn room_at(
     }
 }
 
-// A file with these bytes, and room for them.
+// Makes the file of this name with these bytes, and reserves room for them.
 pub(crate) fn set_at(
     alloc: Global,
     entries: &mut Vec<Entry>,

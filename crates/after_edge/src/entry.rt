@@ -1,5 +1,5 @@
 //! A name of files in memory, its file and its room.
-ghost use Rattle.std.specs.Prelude.{◌≡◌, ◌≤◌, ◌<◌, ◌+◌, ◌-◌, List, ℕ, [], ◌++◌, length, take, drop, min, max, not, vec_len, vec_capacity, if◌then◌else◌, Some, None, option_copied, IsOk, IfOk, OnOk, OnErr};
+ghost use Rattle.std.specs.Prelude.{◌≡◌, ◌≤◌, ◌<◌, ◌-◌, length, not, vec_len, vec_capacity, if◌then◌else◌, Some, None, option_copied, IsOk, IfOk, OnOk, OnErr};
 ghost use Rattle.std.specs.Str.{bytes_eq};
 ghost use Rattle.std.specs.String.{string_bytes};
 ghost use Rattle.after_edge.specs.MemoryFiles.{Kept, with_no_file, with_room, with_no_bytes, with_piece, passes_room, with_bytes};
@@ -13,8 +13,10 @@ use std::marker::Model;
 #[derive(Drop)]
 pub(crate) struct Entry {
     name: String,
+    // whether there is a file, and its bytes
     present: bool,
     bytes: Vec<u8>,
+    // how many bytes the file may have
     room: usize,
 }
 
@@ -59,7 +61,7 @@ impl Entry {
         }
     }
 
-    // Room for this many bytes at least.
+    // Reserves room for this many bytes at least. Where there is no memory, all is as before.
     pub(crate) fn reserve(&mut self, room: usize) -> Result<(), NoMemory>
         ensures ok { OnOk result (self.new ≡ with_room room self.old) }
         ensures within { room ≤ self.old.room → IsOk result }
@@ -68,15 +70,12 @@ impl Entry {
         if room <= self.room {
             return Ok(());
         }
-        match self.bytes.reserve(room - self.bytes.len()) {
-            Ok(()) => {}
-            Err(failed) => return Err(failed),
-        }
+        self.bytes.reserve(room - self.bytes.len())?;
         self.room = room;
         Ok(())
     }
 
-    // An empty file.
+    // Makes the file empty, and makes one where there is none.
     pub(crate) fn begin(&mut self)
         ensures { self.new ≡ with_no_bytes self.old }
     {
@@ -97,16 +96,13 @@ impl Entry {
         piece.len() <= room
     }
 
-    // A file with these bytes.
+    // Makes the file with these bytes, and reserves room for them. Where there is no memory, all is as before.
     pub(crate) fn fill(&mut self, bytes: &[u8]) -> Result<(), NoMemory>
         ensures ok { OnOk result (self.new ≡ with_bytes bytes.now self.old) }
         ensures within { length bytes.now ≤ self.old.room → IsOk result }
         ensures err { OnErr result (self.new ≡ self.old) }
     {
-        match self.reserve(bytes.len()) {
-            Ok(()) => {}
-            Err(failed) => return Err(failed),
-        }
+        self.reserve(bytes.len())?;
         self.begin();
         append_reserved(&mut self.bytes, bytes);
         Ok(())

@@ -1,5 +1,5 @@
 //! The trait of files, and why a read gives nothing.
-ghost use Rattle.std.specs.Prelude.{◌≡◌, ◌<◌, ◌≤◌, List, ℕ, Option, length, take, IfOk, OnOk, OnErr};
+ghost use Rattle.std.specs.Prelude.{◌≡◌, ◌<◌, ◌≤◌, ℕ, Option, length, take, IfOk, OnOk, OnErr};
 ghost use Rattle.after_edge.specs.Fault.{Counts};
 ghost use Rattle.after_edge.specs.Files.{Contents, IfTold, Reads, HasReadCause, Changes, IsBegun, MayBeBegun, IsAppended, MayBeAppended};
 

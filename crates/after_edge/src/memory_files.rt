@@ -20,7 +20,9 @@ use std::marker::Model;
 pub struct MemoryFiles {
     alloc: Global,
     entries: Vec<Entry>,
+    // the numbers of the calls that are to fail
     plan: Vec<u64>,
+    // how many calls of `Files` there were, and how many of them failed
     calls: u64,
     faults: u64,
 }

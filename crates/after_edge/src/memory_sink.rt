@@ -1,8 +1,7 @@
 //! A sink in memory, with failures that are planned.
-ghost use Rattle.std.specs.Prelude.{◌≡◌, ◌≤◌, ℕ, List, length, take, min, unwrap_or, vec_len, vec_capacity, is_err, IfOk, OnOk, OnErr};
-ghost use Rattle.after_edge.specs.Fault.{raised};
+ghost use Rattle.std.specs.Prelude.{◌≡◌, ◌≤◌, ℕ, List, length, vec_len, vec_capacity, is_err, IfOk, OnOk, OnErr};
 ghost use Rattle.after_edge.specs.Sink.{Writes, WritesPart};
-ghost use Rattle.after_edge.specs.MemorySink.{SinkState, HoldsBytes, in_memory, empty_sink, planned_limit, part_taken, put_fails, sink_after};
+ghost use Rattle.after_edge.specs.MemorySink.{SinkState, in_memory, empty_sink, planned_limit, part_taken, put_fails, sink_after};
 
 use crate::reserved::append_reserved;
 use crate::{Failed, Sink};
@@ -15,7 +14,9 @@ use std::marker::Model;
 pub struct MemorySink {
     bytes: Vec<u8>,
     capacity: usize,
+    // the numbers of the puts that are to fail, each with how many bytes it takes before
     plan: Vec<(u64, usize)>,
+    // how many puts there were, and how many of them failed
     puts: u64,
     faults: u64,
 }
@@ -66,10 +67,7 @@ impl MemorySink {
 fn limit_of(plan: &[(u64, usize)], number: u64) -> Option<usize>
     ensures { result ≡ planned_limit plan.now number }
 {
-    match plan.iter().find(|pair| pair.0 == number) {
-        Some(pair) => Some(pair.1),
-        None => None,
-    }
+    plan.iter().find(|pair| pair.0 == number).map(|pair| pair.1)
 }
 
 // What of the piece is added.

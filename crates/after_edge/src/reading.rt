@@ -18,7 +18,7 @@ pub enum FileFault {
         /// The most bytes that the caller takes.
         max: usize,
     },
-    /// There was no memory for the bytes, after some were read. No clause says that it was refused.
+    /// There was no memory for the bytes, after some were read. No clause says that the allocator refused any.
     NoMemory,
 }
 

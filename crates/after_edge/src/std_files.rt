@@ -1,5 +1,5 @@
 //! The host's files.
-ghost use Rattle.std.specs.Prelude.{◌≡◌, ◌<◌, ◌≤◌, ◌↔◌, ℕ, List, length, take, if◌then◌else◌, is_err, IfOk, OnOk, OnErr};
+ghost use Rattle.std.specs.Prelude.{◌≡◌, ◌<◌, ◌≤◌, ◌↔◌, ℕ, List, length, take, is_err, IfOk, OnOk, OnErr};
 ghost use Rattle.std.specs.declared.io.ErrorKind.TheVariants.{NotFound};
 ghost use Rattle.std.specs.IoError.{error_kind};
 ghost use Rattle.after_edge.specs.declared.files.ReadFault.TheVariants.{Absent};
@@ -62,6 +62,7 @@ fn read_from<R: std::rt::Files>(
     }
 }
 
+// Opens the file at its end, makes it where it is absent, and writes the whole piece.
 fn write_at_end<R: std::rt::Files>(rt: &R, name: &str, piece: &[u8]) -> io::Result<()> {
     let mut file = OpenOptions::new().append(true).create(true).open(rt, name)?;
     file.write_all(piece)?;

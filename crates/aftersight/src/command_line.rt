@@ -53,6 +53,7 @@ fn word_at<R: Env>(alloc: Global, rt: &R, index: usize) -> Result<Option<Vec<u8>
     Err(AllocError)
 }
 
+// What `--help` shows.
 const HELP: &str = "\
 aftersight runs a RISC-V guest as if nobody watched, and analyses what it did.
 
@@ -82,9 +83,10 @@ status: 0 done, 1 a finding, 2 wrong words, 3 image or disk refused, 4 script re
 5 files failed, 6 output failed, 8 the step limit, 9 no memory, 10 not built
 ";
 
+// What `--version` shows.
 const VERSION: &str = "aftersight 0.1.0\n";
 
-/// The text of a command line whose only word asks for help or for the version.
+/// The text that a command line asks for whose only word is `--help` or `--version`; none of each other command line.
 pub fn text_of_lone(words: &[String]) -> Option<&'static str>
     ensures { option_map (λ text. text.now) result ≡ text_of (map string_bytes words.now) }
 {

@@ -20,10 +20,15 @@ use taint_marks::Taint;
 /// One analysis of a run.
 #[derive(Drop)]
 pub enum AnyAnalysis {
+    /// The guest's heap.
     Heap(Redzones),
+    /// Marked input.
     Taint(Taint),
+    /// Calls and returns.
     Calls(Calls),
+    /// Coverage.
     Cover(Coverage),
+    /// Locks.
     Locks(Locks),
 }
 
@@ -52,7 +57,7 @@ impl AnyAnalysis {
         })
     }
 
-    /// Its kind.
+    /// The kind of the analysis.
     pub fn kind(&self) -> Kind
         ensures { result ≡ kind_made_of (made_of self.now) }
     {

@@ -6,6 +6,7 @@ ghost use Rattle.analysis_model.specs.Cover.{CodeRange};
 use run_events::{EndCause, Finding, FindingKind, Kind};
 use text_line::Line;
 
+// The first line that is not empty.
 #[tactic(auto, unfolding(analysis_model::specs::Report::title_line))]
 pub(crate) fn title() -> Line
     ensures { result ≡ title_line }
@@ -13,35 +14,42 @@ pub(crate) fn title() -> Line
     Line::new().text("== aftersight report").ended()
 }
 
+// How many steps the run had.
 #[tactic(auto, unfolding(analysis_model::specs::Report::steps_line))]
 pub(crate) fn steps(steps: u32) -> Line
     ensures { result ≡ steps_line steps }
 {
-    Line::new().text("steps ").number(steps as u64).ended()
+    Line::new().text("steps ").number(u64::from(steps)).ended()
 }
 
+// Why the run ended.
 #[tactic(auto, unfolding(analysis_model::specs::Report::end_line))]
 pub(crate) fn end(cause: EndCause) -> Line
     ensures { result ≡ end_line cause }
 {
     match cause {
-        EndCause::Power { status } => Line::new().text("end power ").number(status as u64).ended(),
+        EndCause::Power { status } => Line::new()
+            .text("end power ")
+            .number(u64::from(status))
+            .ended(),
         EndCause::Limit => Line::new().text("end limit").ended(),
     }
 }
 
+// How many bytes of output were issued, and how many of them went out.
 #[tactic(auto, unfolding(analysis_model::specs::Report::output_line))]
 pub(crate) fn output(issued: u32, released: u32) -> Line
     ensures { result ≡ output_line issued released }
 {
     Line::new()
         .text("output ")
-        .number(issued as u64)
+        .number(u64::from(issued))
         .text(" released ")
-        .number(released as u64)
+        .number(u64::from(released))
         .ended()
 }
 
+// How many records the log had.
 #[tactic(auto, unfolding(analysis_model::specs::Report::records_line))]
 pub(crate) fn records(items: u64) -> Line
     ensures { result ≡ records_line items }
@@ -49,6 +57,7 @@ pub(crate) fn records(items: u64) -> Line
     Line::new().text("records ").number(items).ended()
 }
 
+// The name of an analysis.
 #[tactic(auto, unfolding(analysis_model::specs::Report::kind_name))]
 fn kind_name(kind: Kind) -> &'static str
     ensures text { result.now ≡ kind_name kind }
@@ -63,6 +72,7 @@ fn kind_name(kind: Kind) -> &'static str
     }
 }
 
+// The name of what a finding complains of.
 #[tactic(auto, unfolding(analysis_model::specs::Report::finding_name))]
 fn finding_name(kind: FindingKind) -> &'static str
     ensures text { result.now ≡ finding_name kind }
@@ -82,7 +92,7 @@ fn finding_name(kind: FindingKind) -> &'static str
     }
 }
 
-// The line with a step more, or with the word that there is none.
+// The line with a step added, or with `none` where there is none.
 #[tactic(auto, unfolding(analysis_model::specs::Report::step_text))]
 fn with_step(line: Line, step: Option<u32>) -> Line
     requires { length line + 20 ≤ 128 }
@@ -90,11 +100,12 @@ fn with_step(line: Line, step: Option<u32>) -> Line
     ensures size { length result ≤ length line + 20 }
 {
     match step {
-        Some(step) => line.number(step as u64),
+        Some(step) => line.number(u64::from(step)),
         None => line.text("none"),
     }
 }
 
+// How many findings an analysis has, and the step of the first.
 #[tactic(auto, unfolding(analysis_model::specs::Report::findings_line))]
 pub(crate) fn findings(kind: Kind, count: u64, first: Option<u32>) -> Line
     ensures { result ≡ findings_line kind count first }
@@ -107,6 +118,7 @@ pub(crate) fn findings(kind: Kind, count: u64, first: Option<u32>) -> Line
     with_step(counted, first).ended()
 }
 
+// Of calls: how many returns answer no call.
 #[tactic(auto, unfolding(analysis_model::specs::Report::unmatched_line))]
 pub(crate) fn unmatched(count: u64) -> Line
     ensures { result ≡ unmatched_line count }
@@ -114,6 +126,7 @@ pub(crate) fn unmatched(count: u64) -> Line
     Line::new().text("calls unmatched ").number(count).ended()
 }
 
+// Of coverage: how many pc values were executed, and how many ranges they make up.
 #[tactic(auto, unfolding(analysis_model::specs::Report::pcs_line))]
 pub(crate) fn pcs(pcs: u64, ranges: u64) -> Line
     ensures { result ≡ pcs_line pcs ranges }
@@ -126,6 +139,7 @@ pub(crate) fn pcs(pcs: u64, ranges: u64) -> Line
         .ended()
 }
 
+// Of coverage: a range, from its first address to the one after its last.
 #[tactic(auto, unfolding(analysis_model::specs::Report::range_line))]
 pub(crate) fn range(from: u32, to: u32) -> Line
     ensures { result ≡ range_line (record { from = from; to = to }) }
@@ -138,6 +152,7 @@ pub(crate) fn range(from: u32, to: u32) -> Line
         .ended()
 }
 
+// One finding.
 #[tactic(auto, unfolding(analysis_model::specs::Report::finding_line))]
 pub(crate) fn finding(kind: Kind, finding: &Finding) -> Line
     ensures { result ≡ finding_line kind finding.now }
@@ -147,7 +162,7 @@ pub(crate) fn finding(kind: Kind, finding: &Finding) -> Line
         .text(" ")
         .text(finding_name(finding.kind))
         .text(" at ")
-        .number(finding.step as u64)
+        .number(u64::from(finding.step))
         .text(" pc ")
         .hexadecimal(finding.pc)
         .text(" addr ")

@@ -40,7 +40,7 @@ pub trait Hart {
         ensures fits { (ram_kib : ℕ) → ram_size self.old ≡ 1024 * ram_kib → Fits ram_kib result };
 
     /// Does the steps to come as long as the hart does them fast, and only those below a number, and shows each. None of
-    /// them loads a device register or stores a status at the power register. A hart may do none so.
+    /// them loads a device register or stores a status at the power register. A hart need not have a fast way: it may do none.
     fn run_fast<W: Watcher>(&mut self, lines: u8, number: u32, seen: &mut W)
         requires number { number ≤ MOST_STEPS }
         requires size { ram_size self.old ≡ 1024 * W.ram_kib seen.old }

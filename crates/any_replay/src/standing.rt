@@ -9,13 +9,15 @@ use any_machine::Hart;
 use memory_map::POWER;
 use run_events::{Need, Record, Supplied, Watcher, Why};
 
-/// A hart, the interrupt lines, the value of a device register for the step to come, and the status where the last step
-/// was a power store.
+/// A hart with what it was fed for the step to come.
 #[derive(Drop)]
 pub struct Standing<H> {
     pub hart: H,
+    /// The interrupt lines: bit 0 the timer, bit 1 the external line.
     pub lines: u8,
+    /// What a device register gives to the step to come, once that was fed.
     pub load: Option<Supplied>,
+    /// The status, where the last step was a power store.
     pub power: Option<u8>,
 }
 

@@ -30,7 +30,9 @@ use std::marker::Model;
 #[derive(Drop)]
 pub struct Calls {
     ram_kib: u32,
+    // the context that the guest runs in
     context: usize,
+    // the return addresses of each context
     rings: Vec<Frames>,
     unmatched: u64,
     found: Tally,
@@ -178,7 +180,8 @@ impl Calls {
         self.push(pc);
     }
 
-    // The call at `pc` returns to the instruction after it.
+    // Puts the return address of the call at `pc` on the stack: the instruction after it. Where the stack is full, the
+    // oldest one is dropped.
     #[inline(always)]
     fn push(&mut self, pc: u32)
         requires { IsWordInRam self.old.ram_kib pc }
@@ -188,6 +191,7 @@ impl Calls {
         let _dropped = frames.push_front(pc + 4);
     }
 
+    // Takes the newest return address off the stack, and judges the return at `pc` by it.
     #[inline(always)]
     fn pop(&mut self, step: u32, pc: u32, next: u32)
         ensures { self.new ≡ returned self.old step pc next }
@@ -196,6 +200,7 @@ impl Calls {
         self.judge(answer, step, pc, next);
     }
 
+    // Takes the newest return address off the stack, if there is one.
     fn pop_frame(&mut self) -> Option<u32>
         ensures answer { result ≡ front_of self.old }
         ensures rest { self.new ≡ popped self.old }
@@ -204,6 +209,8 @@ impl Calls {
         frames.pop_front()
     }
 
+    // Judges the return at `pc` that went on at `next`, by where its call wanted it to go. Where there was no call it is
+    // unmatched.
     #[inline(always)]
     fn judge(&mut self, answer: Option<u32>, step: u32, pc: u32, next: u32)
         ensures { self.new ≡ judged self.old answer step pc next }
@@ -233,7 +240,7 @@ impl Calls {
         });
     }
 
-    // Of the three arguments that may be told, the first one alone matters.
+    // Changes the context where the word announces one. Of the three arguments the first one alone matters.
     #[tactic(auto, using(crate::proofs::EnterLaws::entered_by_first))]
     #[inline(never)]
     fn enter_first(&mut self, word: u32, first: u32)
@@ -248,6 +255,7 @@ impl Calls {
         self.enter(word, told);
     }
 
+    // Changes the context where the word announces one.
     fn enter(&mut self, word: u32, told: Told)
         ensures { self.new ≡ in_context self.old (entered (announced_by word told)) }
     {

@@ -6,11 +6,12 @@ ghost use Rattle.analysis_model.specs.Calls.{link_as};
 
 use rv_decode::{Link, decode, link_kind};
 
+// The opcodes of the jumps. (Unprivileged manual, chapter 24.)
 const JAL: u32 = 0x6f;
 
 const JALR: u32 = 0x67;
 
-// JALR with x0 and the address in x1.
+// The word of JALR with x0, and the address in x1.
 const RETURN: u32 = 0x0000_8067;
 
 // The lower twelve bits of JAL with x1.
@@ -43,6 +44,7 @@ pub fn link_of_word(word: u32) -> Link
     }
 }
 
+// The same, by the registers of the instruction.
 fn link_by_registers(word: u32) -> Link
     ensures { result ≡ link_as (instruction word) }
 {

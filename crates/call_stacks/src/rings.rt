@@ -11,6 +11,7 @@ use std::alloc::Global;
 /// The return addresses that a context waits for, the newest first.
 pub type Frames = HeapCircularBuffer<u32>;
 
+// How many return addresses a context keeps; the oldest one gives way to the next.
 const FRAMES: usize = 4096;
 
 /// An empty ring for each context.

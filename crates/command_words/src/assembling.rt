@@ -49,6 +49,7 @@ fn is_best(draft: &Draft<'_>) -> bool
     }
 }
 
+// The analyses that are named, or all.
 fn chosen(draft: &Draft<'_>) -> Kinds
     ensures { result ≡ chosen (held draft.now) }
 {
@@ -58,7 +59,7 @@ fn chosen(draft: &Draft<'_>) -> Kinds
     }
 }
 
-// The analyses that are named as required, or all.
+// The analyses that are named as required, or all that are chosen.
 fn named_required(draft: &Draft<'_>) -> Kinds
     ensures { result ≡ named_required (held draft.now) }
 {
@@ -68,6 +69,7 @@ fn named_required(draft: &Draft<'_>) -> Kinds
     }
 }
 
+// The analyses that have to approve; in best-effort mode none has to.
 fn required(draft: &Draft<'_>) -> Kinds
     ensures { result ≡ required (held draft.now) }
 {
@@ -160,7 +162,7 @@ fn are_crossed(threads: u32, is_pattern: bool) -> bool
     threads > 0 || !is_pattern
 }
 
-// Whether turns are given for threads, or they are no pattern for the chosen analyses.
+// Whether turns do not go with the threads, or are no pattern for the chosen analyses.
 #[tactic(auto, unfolding(crate::specs::Jobs::crossed_turns))]
 fn crossed_turns(draft: &Draft<'_>) -> bool
     ensures { result ≡ crossed_turns (held draft.now) }

@@ -5,7 +5,9 @@ use run_settings::{Kinds, Turns};
 /// A run: its files, and what is asked of it.
 #[derive(Drop)]
 pub struct RunWords<'a> {
+    /// The file of the guest.
     pub image: &'a str,
+    /// The file of the script.
     pub script: &'a str,
     /// The file of the disk, if there is one.
     pub disk: Option<&'a str>,
@@ -28,7 +30,9 @@ pub struct RunWords<'a> {
 /// A run that is recorded.
 #[derive(Drop)]
 pub struct RecordWords<'a> {
+    /// The file of the guest.
     pub image: &'a str,
+    /// The file of the script.
     pub script: &'a str,
     /// The file that the log is written to.
     pub log_file: &'a str,
@@ -43,7 +47,9 @@ pub struct RecordWords<'a> {
 /// Analyses of a recorded run.
 #[derive(Drop)]
 pub struct AnalyzeWords<'a> {
+    /// The file of the guest.
     pub image: &'a str,
+    /// The file of the log.
     pub log_file: &'a str,
     /// The analyses in the order of the report: one at least.
     pub kinds: Kinds,
@@ -52,12 +58,14 @@ pub struct AnalyzeWords<'a> {
 /// The records of a log as text.
 #[derive(Drop)]
 pub struct ShowWords<'a> {
+    /// The file of the log.
     pub log_file: &'a str,
 }
 
 /// A run of a guest that is made from a number.
 #[derive(Drop)]
 pub struct LoadWords {
+    /// The number that the guest is made from.
     pub seed: u32,
     /// How many parts the guest has, 1 to 100000.
     pub size: u32,
@@ -70,9 +78,14 @@ pub struct LoadWords {
 /// A command with all that its words say.
 #[derive(Drop)]
 pub enum Command<'a> {
+    /// `run`: a run under analyses.
     Run(RunWords<'a>),
+    /// `record`: a run whose log is written to a file.
     Record(RecordWords<'a>),
+    /// `analyze`: the analyses of a run whose log is in a file.
     Analyze(AnalyzeWords<'a>),
+    /// `show`: the log in a file, as text.
     Show(ShowWords<'a>),
+    /// `load`: a run of a guest that is made.
     Load(LoadWords),
 }

@@ -25,6 +25,7 @@ pub(crate) struct Draft<'a> {
 impl<'a> Draft<'a> {
     ghost use Rattle.command_words.specs.Drafts.{held, plain_held, seen, spent};
 
+    // Before the first word.
     pub(crate) fn new() -> Draft<'a>
         ensures values { (setting : Setting) → held result setting ≡ None }
         ensures plain { plain_held result ≡ [] }

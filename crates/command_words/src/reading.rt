@@ -29,6 +29,7 @@ fn option_of(draft: &Draft<'_>, command: CommandName, word: &str) -> Option<Sett
     }
 }
 
+// Whether a word is what the command asks of its plain word after so many others.
 fn meets_plain(command: CommandName, before: usize, word: &str) -> bool
     ensures { result ≡ meets_plain command before word.now }
 {
@@ -129,6 +130,7 @@ fn read_as(command: CommandName, words: &[String]) -> Result<Command<'_>, WordsF
     command_of(command, &draft)
 }
 
+// The command that words are, or what is wrong with them.
 #[tactic(auto, unfolding(crate::specs::Jobs::job_in))]
 fn command_in(words: &[String]) -> Result<Command<'_>, WordsFault>
     ensures { GivesJob result (job_in (map string_bytes words.now)) }

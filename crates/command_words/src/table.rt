@@ -13,6 +13,7 @@ pub(crate) enum CommandName {
 }
 
 impl CommandName {
+    // The command of this name.
     #[tactic(auto, unfolding(crate::specs::Table::command_named))]
     pub(crate) fn named(word: &str) -> Option<CommandName>
         ensures { result ≡ command_named word.now }
@@ -68,6 +69,7 @@ impl Setting {
         self as usize
     }
 
+    // The option that this word stands for.
     #[tactic(auto, unfolding(crate::specs::Table::setting_named))]
     pub(crate) fn named(word: &str) -> Option<Setting>
         ensures { result ≡ setting_named word.now }

@@ -40,7 +40,7 @@ pub(crate) fn is_option(word: &str) -> bool
     }
 }
 
-// Whether the mode is best effort.
+// Whether a mode is best effort; none where the text is no mode.
 #[tactic(auto, unfolding(crate::specs::Values::best_in))]
 pub(crate) fn best_in(text: &str) -> Option<bool>
     ensures { result ≡ best_in text.now }
@@ -100,6 +100,7 @@ pub(crate) fn size_in(text: &str) -> Option<u32>
     number_in(text, 1, MOST_PARTS)
 }
 
+// The analysis of this name.
 #[tactic(auto, unfolding(crate::specs::Values::kind_named, analysis_model::specs::Report::kind_name))]
 fn kind_named(text: &[u8]) -> Option<Kind>
     ensures { result ≡ kind_named text.now }
@@ -157,13 +158,14 @@ fn kinds_of(text: &[u8]) -> Option<Kinds>
     Some(kinds)
 }
 
+// The analyses that a text names.
 pub(crate) fn kinds_in(text: &str) -> Option<Kinds>
     ensures { result ≡ kinds_in text.now }
 {
     kinds_of(text.as_bytes())
 }
 
-// Such names, or the word for none of them.
+// Such names, or the word `none`.
 #[tactic(auto, unfolding(crate::specs::Values::required_in))]
 pub(crate) fn required_in(text: &str) -> Option<Kinds>
     ensures { result ≡ required_in text.now }
@@ -191,7 +193,7 @@ fn letter_in(byte: u8) -> Option<Letter>
     }
 }
 
-// 1 to `MOST_TURNS` letters.
+// The turns of 1 to `MOST_TURNS` letters.
 fn turns_of(text: &[u8]) -> Option<Turns>
     ensures { result ≡ turns_in text.now }
 {
@@ -208,12 +210,14 @@ fn turns_of(text: &[u8]) -> Option<Turns>
     Some(turns)
 }
 
+// The turns that a text names, a letter each.
 pub(crate) fn turns_in(text: &str) -> Option<Turns>
     ensures { result ≡ turns_in text.now }
 {
     turns_of(text.as_bytes())
 }
 
+// Whether a text is in the range of an option.
 #[tactic(auto, unfolding(crate::specs::Values::meets))]
 fn meets(setting: Setting, value: &str) -> bool
     ensures { result ≡ meets setting value.now }
@@ -231,7 +235,7 @@ fn meets(setting: Setting, value: &str) -> bool
     }
 }
 
-// Whether a value meets the table.
+// Whether a word may be the value of an option.
 pub(crate) fn is_value(setting: Setting, value: &str) -> bool
     ensures { result ≡ is_value setting value.now }
 {

@@ -25,8 +25,9 @@ use std::marker::Model;
 pub struct Coverage {
     ram_kib: u32,
     code: Vec<Area>,
+    // the executed words, a mark for each word of RAM
     marks: Vec<bool>,
-    // the marked words of the code, at which there is nothing more to do
+    // those of them that are code, at which there is nothing more to do
     known: Vec<bool>,
     found: Tally,
 }
@@ -186,6 +187,7 @@ impl Coverage {
         self.known[place_of(pc)]
     }
 
+    // Takes in that the word at this pc was executed.
     #[inline(never)]
     fn execute(&mut self, step: u32, pc: u32)
         requires { IsWordInRam self.old.ram_kib pc }
@@ -195,6 +197,7 @@ impl Coverage {
         self.look_at(step, pc);
     }
 
+    // Marks the word at this pc.
     fn mark(&mut self, pc: u32)
         requires { IsWordInRam self.old.ram_kib pc }
         ensures { self.new ≡ with_mark self.old pc }
@@ -206,6 +209,7 @@ impl Coverage {
         }
     }
 
+    // Adds a finding where this pc is not in the guest's code.
     #[inline(never)]
     fn look_at(&mut self, step: u32, pc: u32)
         ensures { self.new ≡ with_outside self.old step pc }

@@ -8,7 +8,8 @@ use rv_memory::Ram;
 use std::alloc::Global;
 use std::marker::Model;
 
-/// A range of `size` addresses from `address` on. The file gives `bytes` for its beginning; the rest is zero.
+/// A range of `size` addresses from `address` on. The file gives `bytes` for its beginning; the rest is zero. `executable`
+/// tells whether it is code.
 #[derive(Drop)]
 pub struct Segment {
     pub address: u32,

@@ -1,4 +1,4 @@
-//! The hub: log and board in one thread.
+//! The hub: the log and the verdicts of its readers, in one thread.
 ghost use Rattle.std.specs.Prelude.{◌≡◌, ◌<◌, ◌≤◌, ◌^◌, ◌==◌, IsTrue, false, length, slice_index, IfOk};
 ghost use Rattle.std.specs.List.{position_or_len};
 ghost use Rattle.std.specs.Result.{result_err};
@@ -12,12 +12,14 @@ use run_events::Record;
 use std::alloc::Global;
 use std::marker::Model;
 
-/// A log of the last records and a board of verdicts for a few readers, all in one thread.
+/// A log of the last records, and the verdict that each of its readers posted last, all in one thread.
 #[derive(Drop)]
 pub struct Hub {
+    // the last `cap` records
     log: HeapCircularBuffer<Record>,
     cap: u64,
     appended: u64,
+    // of each reader: how many records it has taken, and what it posted last
     taken: Vec<u64>,
     verdicts: Vec<Verdict>,
     closed: bool,

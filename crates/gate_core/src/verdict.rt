@@ -1,6 +1,6 @@
-//! What a replica says of a run.
+//! What a reader says of a run.
 
-/// What a reader says of a run: all steps below `approved` may be shown, and whether it refuses the rest.
+/// What a reader says of a run: that all steps below `approved` may be shown, and whether it refuses the rest.
 #[derive(Clone, Copy, Debug, PartialEq, Eq)]
 pub struct Verdict {
     pub approved: u32,

@@ -3,7 +3,7 @@ ghost use Rattle.std.specs.Prelude.{◌≡◌, ◌==◌, length};
 
 use std::marker::Model;
 
-/// Bytes in a value that contracts see as one. Contracts see them as a list.
+/// The bytes of an entry. Contracts see them as a list, and what holds them as a plain value.
 #[derive(Drop)]
 pub struct Bytes {
     items: Vec<u8>,
@@ -25,7 +25,7 @@ impl Bytes {
         Bytes { items }
     }
 
-    /// The bytes, to be read.
+    /// The bytes in order.
     pub fn as_slice(&self) -> &[u8]
         ensures { result.now ≡ self.now }
     {
@@ -39,7 +39,7 @@ impl Bytes {
         self.items.len()
     }
 
-    /// Whether there is none.
+    /// Whether there are none.
     pub fn is_empty(&self) -> bool
         ensures { result ≡ (length self.now == 0) }
     {

@@ -36,6 +36,7 @@ impl Model for Draft {
     } };
 }
 
+// The step of the last entry; 0 where there is none.
 fn last_step(entries: &[Entry]) -> u32
     ensures { result ≡ last_step entries.now }
 {
@@ -57,7 +58,7 @@ impl Draft {
         }
     }
 
-    // What a line says that comes next.
+    // What the next line says.
     #[tactic(auto, unfolding(format_model::specs::ScriptReading::line_at))]
     pub(crate) fn line_at(&self, alloc: Global, text: &[u8]) -> Result<Line, Broken>
         ensures { Gives says result (line_at self.now text.now) }
@@ -66,13 +67,11 @@ impl Draft {
             return Ok(Line::Blank);
         }
         let is_first = self.entries.is_empty();
-        match after(text, b"clock ") {
-            Some(period) => return clock_at(self.clock.is_none() && is_first, period),
-            None => {}
+        if let Some(period) = after(text, b"clock ") {
+            return clock_at(self.clock.is_none() && is_first, period);
         }
-        match after(text, b"sectors ") {
-            Some(numbers) => return sectors_at(is_first, self.sectors.len(), numbers),
-            None => {}
+        if let Some(numbers) = after(text, b"sectors ") {
+            return sectors_at(is_first, self.sectors.len(), numbers);
         }
         match after(text, b"at ") {
             Some(rest) => entry_at(alloc, last_step(&self.entries), self.entries.len(), rest),

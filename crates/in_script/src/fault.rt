@@ -21,7 +21,7 @@ pub enum ScriptFault {
     NoMemory,
 }
 
-// The same of a line.
+// What is wrong with one line, or that there was no memory for it. `ScriptFault` says what each means.
 #[derive(Clone, Copy)]
 pub(crate) enum Broken {
     BadLine,
@@ -32,6 +32,7 @@ pub(crate) enum Broken {
 }
 
 impl Broken {
+    // The fault of a script whose first broken line has this number.
     pub(crate) fn at(self, line: u32) -> ScriptFault
         ensures { result ≡ fault_at self line }
     {

@@ -1,5 +1,5 @@
 //! Bytes in hexadecimal.
-ghost use Rattle.std.specs.Prelude.{◌≡◌, ◌<◌, IfOk};
+ghost use Rattle.std.specs.Prelude.{◌<◌, IfOk};
 ghost use Rattle.format_model.specs.ScriptReading.{hex_value, pair_at, pairs_at, hex_at};
 ghost use Rattle.in_script.specs.Reads.{Gives};
 
@@ -29,7 +29,7 @@ fn pair_at(high: u8, low: u8) -> Result<u8, Broken>
     Ok(16 * high + low)
 }
 
-// The bytes of pairs.
+// The bytes of pairs of such digits.
 fn pairs_at(alloc: Global, text: &[u8]) -> Result<Vec<u8>, Broken>
     ensures { Gives (λ v. v.items) result (pairs_at text.now) }
 {
@@ -47,7 +47,7 @@ fn pairs_at(alloc: Global, text: &[u8]) -> Result<Vec<u8>, Broken>
     }
 }
 
-// The bytes of one pair or more.
+// The bytes of one pair of such digits or more.
 #[tactic(auto, unfolding(format_model::specs::ScriptReading::hex_at))]
 pub(crate) fn hex_at(alloc: Global, text: &[u8]) -> Result<Vec<u8>, Broken>
     ensures { Gives (λ v. v.items) result (hex_at text.now) }

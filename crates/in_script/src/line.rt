@@ -47,6 +47,7 @@ pub(crate) fn is_blank(text: &[u8]) -> bool
     }
 }
 
+// The bytes in hexadecimal that come on the serial line, with this mark.
 #[tactic(auto, unfolding(format_model::specs::ScriptReading::serial_at))]
 fn serial_at(alloc: Global, text: &[u8], mark: u8) -> Result<What, Broken>
     ensures { Gives arrives result (serial_at mark text.now) }
@@ -58,7 +59,7 @@ fn serial_at(alloc: Global, text: &[u8], mark: u8) -> Result<What, Broken>
     })
 }
 
-// The bytes of a text, and a line feed.
+// The bytes of a text and a line feed, which come on the serial line without a mark.
 fn text_at(alloc: Global, text: &[u8]) -> Result<What, Broken>
     ensures { Gives arrives result (Ok (Serial (text.now ++ 10 ∷ []) 0)) }
 {
@@ -70,6 +71,7 @@ fn text_at(alloc: Global, text: &[u8]) -> Result<What, Broken>
     })
 }
 
+// A rise of the timer, by its number.
 #[tactic(auto, unfolding(format_model::specs::ScriptReading::tick_at))]
 fn tick_at(text: &[u8]) -> Result<What, Broken>
     ensures { Gives arrives result (tick_at text.now) }
@@ -78,6 +80,7 @@ fn tick_at(text: &[u8]) -> Result<What, Broken>
     Ok(What::Tick { count })
 }
 
+// A latency of the disk, by its number of steps.
 #[tactic(auto, unfolding(format_model::specs::ScriptReading::latency_at))]
 fn latency_at(text: &[u8]) -> Result<What, Broken>
     ensures { Gives arrives result (latency_at text.now) }
@@ -91,21 +94,17 @@ fn latency_at(text: &[u8]) -> Result<What, Broken>
 fn what_at(alloc: Global, text: &[u8]) -> Result<What, Broken>
     ensures { Gives arrives result (what_at text.now) }
 {
-    match after(text, b"serial ") {
-        Some(hex) => return serial_at(alloc, hex, 0),
-        None => {}
+    if let Some(hex) = after(text, b"serial ") {
+        return serial_at(alloc, hex, 0);
     }
-    match after(text, b"marked ") {
-        Some(hex) => return serial_at(alloc, hex, 1),
-        None => {}
+    if let Some(hex) = after(text, b"marked ") {
+        return serial_at(alloc, hex, 1);
     }
-    match after(text, b"line ") {
-        Some(rest) => return text_at(alloc, rest),
-        None => {}
+    if let Some(rest) = after(text, b"line ") {
+        return text_at(alloc, rest);
     }
-    match after(text, b"tick ") {
-        Some(count) => return tick_at(count),
-        None => {}
+    if let Some(count) = after(text, b"tick ") {
+        return tick_at(count);
     }
     match after(text, b"latency ") {
         Some(steps) => latency_at(steps),
@@ -125,6 +124,7 @@ pub(crate) fn clock_at(may_stand: bool, text: &[u8]) -> Result<Line, Broken>
     Ok(Line::Clock(period))
 }
 
+// The sectors from one number to another, which is no less.
 #[tactic(auto, unfolding(format_model::specs::ScriptReading::span_in))]
 fn span_in(left: &[u8], right: &[u8]) -> Result<Span, Broken>
     ensures { Gives (λ s. s) result (span_in left.now right.now) }
@@ -151,6 +151,7 @@ pub(crate) fn sectors_at(may_stand: bool, count: usize, text: &[u8]) -> Result<L
     }
 }
 
+// What arrives before the step `at`, after this many entries, of which the last is at the step `last`.
 #[tactic(auto, unfolding(format_model::specs::ScriptReading::entry_in))]
 fn entry_in(last: u32, count: usize, at: u32, what: What) -> Result<Line, Broken>
     ensures { Gives says result (entry_in last count at (arrives what)) }
@@ -164,7 +165,7 @@ fn entry_in(last: u32, count: usize, at: u32, what: What) -> Result<Line, Broken
     }
 }
 
-// An entry, after this many others, of which the last is at this step.
+// An entry, after this many others, of which the last is at the step `last`.
 #[tactic(auto, unfolding(format_model::specs::ScriptReading::entry_at))]
 pub(crate) fn entry_at(alloc: Global, last: u32, count: usize, text: &[u8]) -> Result<Line, Broken>
     ensures { Gives says result (entry_at last count text.now) }

@@ -5,17 +5,14 @@ ghost use Rattle.in_script.specs.Reads.{Gives};
 use crate::fault::Broken;
 use decimal_text::is_number;
 
-// The value of digits that have no leading zero and are within these ends.
+// The value of digits that have no leading zero and are within these ends; else the line has a bad number.
 pub(crate) fn number_in(digits: &[u8], least: u32, most: u32) -> Result<u32, Broken>
     ensures { Gives (λ n. n) result (number_in least most digits.now) }
 {
-    match decimal_text::number_in(digits, least, most) {
-        Some(value) => Ok(value),
-        None => Err(Broken::BadNumber),
-    }
+    decimal_text::number_in(digits, least, most).ok_or(Broken::BadNumber)
 }
 
-// A number alone.
+// The number that a text is. A text that is no digits makes a bad line.
 #[tactic(auto, unfolding(format_model::specs::ScriptReading::number_at))]
 pub(crate) fn number_at(text: &[u8], least: u32, most: u32) -> Result<u32, Broken>
     ensures { Gives (λ n. n) result (number_at least most text.now) }

@@ -35,6 +35,7 @@ fn lines_of(alloc: Global, file: &[u8]) -> Result<Draft, ScriptFault>
     Ok(draft)
 }
 
+// The script of a file, as `parse` says.
 #[tactic(auto, unfolding(format_model::specs::ScriptReading::script_in))]
 fn script_in(alloc: Global, file: &[u8]) -> Result<Script, ScriptFault>
     requires { length (texts_of file.now) < 4294967296 }

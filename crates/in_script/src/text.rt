@@ -30,14 +30,11 @@ fn cut(text: &[u8], byte: u8) -> Option<(&[u8], &[u8])>
     }
 }
 
-// What stands before and after the first space.
+// What stands before and after the first space. A text without one makes a bad line.
 pub(crate) fn at_space(text: &[u8]) -> Result<(&[u8], &[u8]), Broken>
     ensures { Gives (λ p. (p.0.now, p.1.now)) result (at_space text.now) }
 {
-    match cut(text, b' ') {
-        Some(words) => Ok(words),
-        None => Err(Broken::BadLine),
-    }
+    cut(text, b' ').ok_or(Broken::BadLine)
 }
 
 // The first line of a file that is not empty, without its line feed, and what stands after it.

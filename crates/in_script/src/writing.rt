@@ -9,6 +9,7 @@ use itoa::Buffer;
 use memory_map::NoMemory;
 use std::alloc::Global;
 
+// Adds a number in decimal digits.
 fn put_number(out: &mut Vec<u8>, number: u32) -> Result<(), NoMemory>
     ensures { OnOk result (out.new.items ≡ out.old.items ++ decimal number) }
 {
@@ -28,6 +29,7 @@ fn hex_digit(value: u8) -> u8
     }
 }
 
+// Adds bytes as pairs of such digits.
 fn put_hex(out: &mut Vec<u8>, bytes: &[u8]) -> Result<(), NoMemory>
     ensures { OnOk result (out.new.items ≡ out.old.items ++ hex bytes.now) }
 {
@@ -37,6 +39,7 @@ fn put_hex(out: &mut Vec<u8>, bytes: &[u8]) -> Result<(), NoMemory>
     Ok(())
 }
 
+// Adds what arrives, by its word.
 fn put_what(out: &mut Vec<u8>, what: &What) -> Result<(), NoMemory>
     ensures { OnOk result (out.new.items ≡ out.old.items ++ what_text (arrives what.now)) }
 {
@@ -57,6 +60,7 @@ fn put_what(out: &mut Vec<u8>, what: &What) -> Result<(), NoMemory>
     }
 }
 
+// Adds the line of a span of sectors.
 fn put_span(out: &mut Vec<u8>, span: &Span) -> Result<(), NoMemory>
     ensures { OnOk result (out.new.items ≡ out.old.items ++ span_line span.now) }
 {
@@ -68,6 +72,7 @@ fn put_span(out: &mut Vec<u8>, span: &Span) -> Result<(), NoMemory>
     Ok(())
 }
 
+// Adds the line of an entry.
 fn put_entry(out: &mut Vec<u8>, entry: &Entry) -> Result<(), NoMemory>
     ensures { OnOk result (out.new.items ≡ out.old.items ++ entry_line entry.now) }
 {
@@ -79,6 +84,7 @@ fn put_entry(out: &mut Vec<u8>, entry: &Entry) -> Result<(), NoMemory>
     Ok(())
 }
 
+// Adds the line of the clock.
 fn put_clock(out: &mut Vec<u8>, period: u32) -> Result<(), NoMemory>
     ensures { OnOk result (out.new.items ≡ out.old.items ++ clock_line period) }
 {
@@ -88,6 +94,7 @@ fn put_clock(out: &mut Vec<u8>, period: u32) -> Result<(), NoMemory>
     Ok(())
 }
 
+// Adds the lines of all spans.
 fn put_spans(out: &mut Vec<u8>, spans: &[Span]) -> Result<(), NoMemory>
     ensures { OnOk result (out.new.items ≡ out.old.items ++ flat_map span_line spans.now) }
 {
@@ -97,6 +104,7 @@ fn put_spans(out: &mut Vec<u8>, spans: &[Span]) -> Result<(), NoMemory>
     Ok(())
 }
 
+// Adds the lines of all entries.
 fn put_entries(out: &mut Vec<u8>, entries: &[Entry]) -> Result<(), NoMemory>
     ensures { OnOk result (out.new.items ≡ out.old.items ++ flat_map entry_line entries.now) }
 {
@@ -106,6 +114,7 @@ fn put_entries(out: &mut Vec<u8>, entries: &[Entry]) -> Result<(), NoMemory>
     Ok(())
 }
 
+// The canonical text of a script, as `print` says.
 #[tactic(auto, unfolding(format_model::specs::Script::printed))]
 fn printed(alloc: Global, script: &Script) -> Result<Vec<u8>, NoMemory>
     ensures { IfOk result (λ text. text.items ≡ printed script.now) }

@@ -1,12 +1,12 @@
 //! The guarded ranges, and the least byte of an access that is not guarded by a lock held.
-ghost use Rattle.std.specs.Prelude.{◌≡◌, ℕ};
+ghost use Rattle.std.specs.Prelude.{◌≡◌};
 ghost use Rattle.list_laws.specs.Least.{is_between, least_from};
 ghost use Rattle.lock_rules.specs.Entries.{is_open_in, is_open};
 ghost use Rattle.lock_rules.specs.Lesser.{lesser};
 
 use crate::lock::{Lock, holder_at, is_held_by};
 
-/// The addresses from `from` on and below `to` are guarded by the lock at a place.
+/// The addresses from `from` on and below `to` are guarded by the lock at this place among the locks.
 #[derive(Clone, Copy)]
 pub struct Guard {
     pub from: u32,
@@ -63,6 +63,7 @@ fn overlap(guard: &Guard, from: u32, size: u32) -> Option<u32>
     }
 }
 
+// The lesser of two numbers; where one is missing, the other one.
 fn lesser(a: Option<u32>, b: Option<u32>) -> Option<u32>
     ensures { result ≡ lesser a b }
 {

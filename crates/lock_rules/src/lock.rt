@@ -1,5 +1,5 @@
 //! The locks that count, in the order in which they were first named.
-ghost use Rattle.std.specs.Prelude.{◌≡◌, ◌==◌, Option, None, map, slice_get};
+ghost use Rattle.std.specs.Prelude.{◌≡◌, ◌==◌, Option, None, map};
 ghost use Rattle.std.specs.List.{position_from};
 ghost use Rattle.analysis_model.specs.Locks.{has_lock, is_held_by};
 ghost use Rattle.lock_rules.specs.Entries.{numbers, holder_of, holder_at, with_holder};
@@ -69,6 +69,7 @@ pub fn set_holder(locks: &mut [Lock], number: u32, holder: Option<u32>)
     }
 }
 
+// The lock, with another holder where it has this number.
 fn with_holder(lock: Lock, number: u32, holder: Option<u32>) -> Lock
     ensures { result ≡ with_holder number holder lock }
 {

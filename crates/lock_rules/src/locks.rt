@@ -1,8 +1,7 @@
 //! The analysis of locks.
 ghost use Rattle.memory_map.specs.declared.TheConstants.{LEAST_RAM_KIB, MOST_RAM_KIB};
-ghost use Rattle.std.specs.Prelude.{◌≡◌, ℕ, ◌*◌, ◌<◌, ◌≤◌, true, List, [], ◌∷◌, ◌++◌, length, map, Option, None, Some, IfOk};
+ghost use Rattle.std.specs.Prelude.{◌≡◌, ℕ, ◌*◌, ◌<◌, ◌≤◌, true, List, [], ◌∷◌, ◌++◌, length, Option, None, Some, IfOk};
 ghost use Rattle.std.specs.Option.{option_map};
-ghost use Rattle.std.specs.List.{position_from};
 ghost use Rattle.run_events.specs.declared.announcement.Announcement.TheVariants as announce;
 ghost use Rattle.run_events.specs.declared.event.Event.{Event};
 ghost use Rattle.run_events.specs.declared.finding.Kind.TheVariants as kind;
@@ -12,10 +11,10 @@ ghost use Rattle.run_events.specs.Event.{AccessFits, Fits};
 ghost use Rattle.lock_rules.specs.Entries.{is_open};
 ghost use Rattle.analysis_model.specs.Complaints.{findings};
 ghost use Rattle.analysis_model.specs.Findings.{first_step, tally, kept};
-ghost use Rattle.analysis_model.specs.Locks.{locks_kept, bad_acquire, bad_release};
+ghost use Rattle.analysis_model.specs.Locks.{locks_kept};
 ghost use Rattle.analysis_model.specs.Made.{make_of};
 ghost use Rattle.analysis_model.specs.Look.{finding_at};
-ghost use Rattle.lock_rules.specs.State.{Stands, make_now, guest_now, known_with, guards_with, told_state, heard, opened, noted, after};
+ghost use Rattle.lock_rules.specs.State.{Stands, make_now, guest_now, known_with, guards_with, told_state, heard, opened, after};
 
 use crate::guard::{Guard, least_open};
 use crate::lock::{Lock, holder_of, is_held_by, is_known, place_of, set_holder};
@@ -43,9 +42,10 @@ pub struct Locks {
 
 impl SharedByThreads for Locks {}
 
-// So many locks count, and so many ranges.
+// How many locks count, and how many guarded ranges.
 const KEPT: usize = 256;
 
+// The value of the shadow at a guarded byte; it is 0 elsewhere.
 const GUARDED: u8 = 1;
 
 impl Model for Locks {
@@ -135,6 +135,7 @@ impl Locks {
         self.found.kept()
     }
 
+    // Takes in an event. At nearly each there is nothing to do, as one look tells.
     #[inline(always)]
     fn take_in(&mut self, event: &Event)
         requires { Fits self.old.ram_kib event.now }
@@ -145,7 +146,7 @@ impl Locks {
         }
     }
 
-    // Whether the event announces nothing and touches nothing that could be guarded, as nearly each.
+    // Whether the event announces nothing and touches nothing that could be guarded, as nearly each does.
     #[inline(always)]
     fn is_calm(&self, event: &Event) -> bool
         requires { Fits self.now.ram_kib event.now }
@@ -191,6 +192,7 @@ impl Locks {
         self.guarded.has_four_clear(address, GUARDED)
     }
 
+    // Takes in an event, whatever it is.
     #[inline(never)]
     fn take_in_whole(&mut self, event: &Event)
         ensures { self.new ≡ after self.old event.now }
@@ -255,12 +257,13 @@ impl Locks {
         }
     }
 
+    // The context acquires a lock. Where the lock counts, it is a finding if it is held.
     fn acquire(&mut self, step: u32, pc: u32, lock: u32) -> Option<Finding>
         ensures finding { result
             ≡ option_map (finding_at step pc) (heard self.old (Some (announce.Acquire lock))) }
         ensures state { self.new ≡ told_state self.old (Some (announce.Acquire lock)) }
     {
-        self.name(lock);
+        self.note_lock(lock);
         let is_bad = is_known(&self.locks, lock) && holder_of(&self.locks, lock).is_some();
         set_holder(&mut self.locks, lock, Some(self.context));
         if is_bad {
@@ -275,12 +278,13 @@ impl Locks {
         }
     }
 
+    // The context releases a lock. Where the lock counts, it is a finding if the context does not hold it.
     fn release(&mut self, step: u32, pc: u32, lock: u32) -> Option<Finding>
         ensures finding { result
             ≡ option_map (finding_at step pc) (heard self.old (Some (announce.Release lock))) }
         ensures state { self.new ≡ told_state self.old (Some (announce.Release lock)) }
     {
-        self.name(lock);
+        self.note_lock(lock);
         let holder = holder_of(&self.locks, lock);
         let is_bad = is_known(&self.locks, lock) && !is_held_by(holder, self.context);
         set_holder(&mut self.locks, lock, None);
@@ -296,15 +300,17 @@ impl Locks {
         }
     }
 
+    // A lock guards `size` bytes from `start` on, where it counts.
     fn guard(&mut self, start: u32, size: u32, lock: u32)
         ensures { self.new ≡ told_state self.old (Some (announce.Guard start size lock)) }
     {
-        self.name(lock);
+        self.note_lock(lock);
         if let Some(place) = place_of(&self.locks, lock) {
             self.add_guard(start, size, place);
         }
     }
 
+    // Adds a guarded range, where there is room.
     #[tactic(auto, unfolding(analysis_model::specs::Locks::locks_kept))]
     fn add_guard(&mut self, start: u32, size: u32, place: usize)
         ensures { self.new
@@ -324,7 +330,7 @@ impl Locks {
 
     // Lets the lock count, where it is new and there is room.
     #[tactic(auto, unfolding(analysis_model::specs::Locks::locks_kept))]
-    fn name(&mut self, number: u32)
+    fn note_lock(&mut self, number: u32)
         ensures { self.new ≡ record self.old { locks = known_with self.old.locks (Some number) } }
     {
         if !is_known(&self.locks, number) && self.locks.len() < KEPT {
@@ -335,6 +341,7 @@ impl Locks {
         }
     }
 
+    // The guest goes on in this context, where there is such a one.
     fn enter(&mut self, context: u32)
         ensures { self.new ≡ told_state self.old (Some (announce.Enter context)) }
     {

@@ -22,7 +22,7 @@ use shadow_state::Shadow;
 use std::alloc::Global;
 use std::marker::Model;
 
-// The values of the shadow. A byte is one of a live block, of a redzone, of a freed block, or of none.
+// The values of the shadow. A byte is one of a live block, of a redzone, of a freed block, or of none of these.
 const LIVE: u8 = 0;
 
 const RED: u8 = 1;
@@ -126,6 +126,7 @@ impl Redzones {
         self.found.kept()
     }
 
+    // Takes in an event. At nearly each there is nothing to do, as one look tells.
     #[inline(always)]
     fn take_in(&mut self, event: &Event)
         requires { Fits self.old.ram_kib event.now }
@@ -136,7 +137,7 @@ impl Redzones {
         }
     }
 
-    // Whether the event announces nothing and touches no forbidden byte, as nearly each.
+    // Whether the event announces nothing and touches no forbidden byte, as nearly each does.
     #[inline(always)]
     fn is_calm(&self, event: &Event) -> bool
         requires { Fits self.now.ram_kib event.now }
@@ -148,6 +149,7 @@ impl Redzones {
         }
     }
 
+    // Takes in an event, whatever it is.
     #[cold]
     fn take_in_whole(&mut self, event: &Event)
         requires { Fits self.old.ram_kib event.now }
@@ -216,7 +218,7 @@ impl Redzones {
         }
     }
 
-    // The least byte of RAM in a freed block that is not live.
+    // The least byte of RAM that is not live in a block that the guest frees.
     fn first_bad_free(&self, announced: Option<Announcement>) -> Option<u32>
         ensures { option_map bad_free result
             ≡ free self.now.ram_kib (use_in self.now.shade) announced }
@@ -230,6 +232,7 @@ impl Redzones {
         }
     }
 
+    // The least byte of RAM in `[from, to)` that is not live.
     fn first_not_live(&self, from: u64, to: u64) -> Option<u32>
         ensures { result
             ≡ least_in_ram self.now.ram_kib (λ a. not (is_live (use_in self.now.shade a))) from to }
@@ -255,6 +258,7 @@ impl Redzones {
         }
     }
 
+    // The least of `len` bytes from an address on that no access may touch.
     fn first_forbidden(&self, from: u32, len: u32) -> Option<u32>
         ensures { result ≡ least_from (λ a. is_forbidden (use_in self.now.shade a)) from len }
     {
@@ -263,6 +267,7 @@ impl Redzones {
             .first_of(start, start + u64::from(len), FORBIDDEN)
     }
 
+    // What is found at a forbidden byte: `Freed` at one of a freed block, else `Red`.
     fn touch_kind(&self, address: u32) -> FindingKind
         ensures { result ≡ touch_kind (use_in self.now.shade address) }
     {

@@ -8,7 +8,7 @@ use in_script::ScriptFault;
 use run_inputs::InputFault;
 use text_line::Line;
 
-/// A put of the output failed.
+/// The line that tells that a put of the output failed.
 #[tactic(auto, unfolding(crate::specs::Lines::output_failed_line))]
 pub fn output_failed() -> Line
     ensures { result ≡ output_failed_line }
@@ -16,6 +16,7 @@ pub fn output_failed() -> Line
     Line::new().text("output failed").ended()
 }
 
+// The words are a job that is not built.
 #[tactic(auto, unfolding(crate::specs::Lines::not_built_line))]
 pub(crate) fn not_built() -> Line
     ensures { result ≡ not_built_line }
@@ -23,6 +24,7 @@ pub(crate) fn not_built() -> Line
     Line::new().text("not built").ended()
 }
 
+// There was no memory.
 #[tactic(auto, unfolding(crate::specs::Lines::no_memory_line))]
 pub(crate) fn no_memory() -> Line
     ensures { result ≡ no_memory_line }
@@ -30,6 +32,7 @@ pub(crate) fn no_memory() -> Line
     Line::new().text("no memory").ended()
 }
 
+// What is wrong with words: which one is bad, or that one is missing.
 #[tactic(auto, unfolding(crate::specs::Lines::words_line))]
 pub(crate) fn words(fault: WordsFault) -> Line
     ensures { result ≡ words_line fault }
@@ -37,7 +40,7 @@ pub(crate) fn words(fault: WordsFault) -> Line
     match fault {
         WordsFault::Word { number } => Line::new()
             .text("words: word ")
-            .number(number as u64)
+            .number(u64::from(number))
             .ended(),
         WordsFault::Missing => Line::new().text("words: missing").ended(),
     }
@@ -86,6 +89,7 @@ fn disk_long() -> Line
     Line::new().text("disk: too long").ended()
 }
 
+// What is wrong with an image.
 #[tactic(auto, unfolding(crate::specs::Lines::image_line))]
 fn image(fault: ImageFault) -> Line
     ensures { result ≡ image_line fault }
@@ -94,7 +98,7 @@ fn image(fault: ImageFault) -> Line
         ImageFault::Short { need } => Line::new().text("image: short need ").number(need).ended(),
         ImageFault::NotThis { field } => Line::new()
             .text("image: not this field ")
-            .number(field as u64)
+            .number(u64::from(field))
             .ended(),
         ImageFault::BadTable => Line::new().text("image: bad table").ended(),
         ImageFault::SegmentShape { index } => segment(index, " shape"),
@@ -106,6 +110,7 @@ fn image(fault: ImageFault) -> Line
     }
 }
 
+// What is wrong with the segment of this header.
 #[tactic(auto, unfolding(crate::specs::Lines::segment_line))]
 fn segment(index: u32, what: &str) -> Line
     requires { length what.now ≤ 16 }
@@ -113,24 +118,26 @@ fn segment(index: u32, what: &str) -> Line
 {
     Line::new()
         .text("image: segment ")
-        .number(index as u64)
+        .number(u64::from(index))
         .text(what)
         .ended()
 }
 
+// The segments of these headers share an address.
 #[tactic(auto, unfolding(crate::specs::Lines::overlap_line))]
 fn overlap(first: u32, second: u32) -> Line
     ensures { result ≡ overlap_line first second }
 {
     Line::new()
         .text("image: segments ")
-        .number(first as u64)
+        .number(u64::from(first))
         .text(" ")
-        .number(second as u64)
+        .number(u64::from(second))
         .text(" overlap")
         .ended()
 }
 
+// What is wrong with a script.
 fn script(fault: ScriptFault) -> Line
     ensures { result ≡ script_fault_line fault }
 {
@@ -143,6 +150,7 @@ fn script(fault: ScriptFault) -> Line
     }
 }
 
+// What is wrong with this line of a script.
 #[tactic(auto, unfolding(crate::specs::Lines::script_line))]
 fn script_line(line: u32, what: &str) -> Line
     requires { length what.now ≤ 16 }
@@ -150,7 +158,7 @@ fn script_line(line: u32, what: &str) -> Line
 {
     Line::new()
         .text("script: line ")
-        .number(line as u64)
+        .number(u64::from(line))
         .text(what)
         .ended()
 }

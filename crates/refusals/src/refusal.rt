@@ -17,7 +17,7 @@ pub enum Refusal {
     NotBuilt,
     /// The files of a run are not taken, or there was no memory for them.
     Inputs(InputFault),
-    /// There was no memory to open the run. No clause says that it was refused.
+    /// There was no memory, for the words or to open the run. No clause says that the allocator refused any.
     NoMemory,
 }
 
@@ -48,6 +48,7 @@ impl Refusal {
     }
 }
 
+// The exit status of files that are not taken.
 fn input_status(fault: InputFault) -> u8
     ensures { result ≡ input_status fault }
 {

@@ -5,8 +5,11 @@ ghost use Rattle.run_events.specs.Access as accesses;
 /// What the argument registers x10, x11 and x12 held before an instruction.
 #[derive(Clone, Copy, Debug, PartialEq, Eq)]
 pub struct Told {
+    /// x10.
     pub a0: u32,
+    /// x11.
     pub a1: u32,
+    /// x12.
     pub a2: u32,
 }
 
@@ -15,8 +18,8 @@ pub struct Told {
 pub enum Access {
     /// The instruction accessed no data. A failed SC is quiet.
     Quiet,
-    /// `value` is the bytes read, extended by zero; of a device's load the whole word that was supplied.
-    /// `mark` is 0 for unmarked input. LR is a load.
+    /// A load; LR is one. `value` is the bytes read, extended by zero; of a device's load the whole word that was
+    /// supplied. `mark` is 1 for marked input of a device, else 0.
     Load {
         address: u32,
         width: u32,
@@ -24,14 +27,14 @@ pub enum Access {
         device: bool,
         mark: u8,
     },
-    /// `value` is the stored low bytes, extended by zero. A successful SC is a store.
+    /// A store; a successful SC is one. `value` is the stored low bytes, extended by zero.
     Store {
         address: u32,
         width: u32,
         value: u32,
         device: bool,
     },
-    /// An atomic memory operation on a word.
+    /// An atomic memory operation on a word of RAM: it read `old` and stored `new`.
     Swap {
         address: u32,
         old: u32,
@@ -52,7 +55,7 @@ impl Access {
         }
     }
 
-    /// How many bytes are touched.
+    /// How many bytes are touched; 0 where none is.
     pub fn touched_len(&self) -> u32
         ensures { result ≡ accesses.touched_len self.now }
     {
@@ -63,7 +66,7 @@ impl Access {
         }
     }
 
-    /// Whether they are a device's.
+    /// Whether it is an access to a device register.
     pub fn is_of_device(&self) -> bool
         ensures { result ≡ accesses.is_of_device self.now }
     {

@@ -49,9 +49,11 @@ pub fn may_announce(word: u32) -> bool
     ensures form { result ≡ is_idle_compare word }
     ensures none { result ≡ false → (told : Arguments) → announced_by word told ≡ None }
 {
+    // the lower twenty bits of slti x0, x0, k, above which k stands
     word % 0x10_0000 == 0x2013
 }
 
+// What `word` announces, by its k.
 #[tactic(auto, unfolding(crate::specs::Announcement::announced_by))]
 fn of_number(word: u32, told: Told) -> Option<Announcement>
     ensures { result ≡ announced_by word told }

@@ -7,7 +7,7 @@ pub enum Why {
     MissingLoad,
     /// A value was recorded for a step that loads no device register.
     UnusedLoad,
-    /// A word of the disk does not stand in RAM.
+    /// A word of the disk is not for an aligned word of RAM.
     BadDma,
     /// The order of records does not admit the record.
     StepFalls,
@@ -15,7 +15,7 @@ pub enum Why {
     EndsElsewhere,
 }
 
-/// The step that a list of records goes wrong at, and what is wrong there.
+/// The step at which a list of records goes wrong, and what is wrong there.
 #[derive(Clone, Copy, Debug, PartialEq, Eq)]
 pub struct Diverged {
     pub step: u32,

@@ -5,7 +5,7 @@ ghost use Rattle.run_events.specs.Record as order;
 use crate::Record;
 use memory_map::MOST_STEPS;
 
-/// The number of a record.
+/// The number of a record: the step that it comes before or belongs to, or how many steps it says are done.
 pub fn number(r: &Record) -> u32
     ensures { result ≡ order.number r.now }
 {
@@ -45,7 +45,7 @@ pub(crate) fn is_end(r: &Record) -> bool
     matches!(r, Record::End { .. })
 }
 
-/// Whether a record has words: its number, its lines and its mark are in range.
+/// Whether a record has its two words: its number is at most `MOST_STEPS`, its lines are two bits, its mark is 0 or 1.
 pub fn is_record(r: &Record) -> bool
     ensures { IsTrue result ↔ order.IsRecord r.now }
 {

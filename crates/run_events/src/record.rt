@@ -6,7 +6,7 @@ use memory_map::SharedByThreads;
 pub enum EndCause {
     /// The guest stored to the power register; `status` is the low byte that it stored.
     Power { status: u8 },
-    /// The limit's number of steps was done.
+    /// As many steps were done as the limit allows.
     Limit,
 }
 
@@ -25,7 +25,7 @@ pub enum Record {
         step: u32,
         bits: u8,
     },
-    /// Before this step the disk writes `word` at `address`.
+    /// Before this step the disk writes `word` at `address`, with a mark of 0 or 1.
     Dma {
         step: u32,
         address: u32,
@@ -36,7 +36,7 @@ pub enum Record {
     Reach {
         step: u32,
     },
-    /// The run has this number of steps.
+    /// The run has this number of steps, and ended there for this reason. No record comes after it.
     End {
         step: u32,
         cause: EndCause,

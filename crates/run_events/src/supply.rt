@@ -21,5 +21,6 @@ pub struct DmaWord {
 pub enum Need {
     /// It loads the device register at this byte address, `width` bytes (1, 2 or 4) of it.
     Load { address: u32, width: u32 },
+    /// It loads no device register.
     Nothing,
 }

@@ -42,8 +42,8 @@ pub trait Watcher {
     }
 }
 
-/// Shows the next event to a watcher. The event stays where it was made, piece by piece, where the watcher looks at it
-/// fast: only else it is written down whole.
+/// Shows the next event to a watcher. Where the watcher has a short way to look at it, the event stays where it was made,
+/// piece by piece; only else it is written down whole.
 #[inline(always)]
 pub fn show<W: Watcher>(event: Event, seen: &mut W)
     requires { Fits (W.ram_kib seen.old) event }

@@ -31,6 +31,7 @@ fn mark(r: &Record) -> u8
     }
 }
 
+// The second word of a record, as `to_words` says.
 fn second_word(r: &Record) -> u64
     ensures word { result ≡ spec.second_word r.now }
     ensures fits { spec.FitsWord r.now }
@@ -64,6 +65,7 @@ pub fn to_words(r: &Record) -> (u64, u64)
     (first, second_word(r))
 }
 
+// Why a run ended, by the second word of its End.
 fn cause_in(second: u64) -> EndCause
     ensures { result ≡ spec.cause_in second }
 {

@@ -20,11 +20,12 @@ pub enum InputFault {
     Image(ImageFault),
     /// The script's file is no script. It is never `NoMemory`.
     Script(ScriptFault),
-    /// There was no memory, after some of the image was read. No clause says that it was refused.
+    /// There was no memory, after some of the image was read. No clause says that the allocator refused any.
     NoMemory,
 }
 
 impl InputFault {
+    // The fault of files whose image has this one.
     pub(crate) fn of_image(fault: ImageFault) -> InputFault
         ensures { result ≡ of_image fault }
     {
@@ -34,6 +35,7 @@ impl InputFault {
         }
     }
 
+    // The fault of files whose script has this one.
     pub(crate) fn of_script(fault: ScriptFault) -> InputFault
         ensures { result ≡ of_script fault }
     {

@@ -9,8 +9,8 @@ use std::marker::Model;
 /// The most turns of a pattern.
 pub const MOST_TURNS: usize = 64;
 
-/// Turns that are taken one after another, and then anew: at most `MOST_TURNS`. They lie in the value itself, so that no call takes
-/// memory.
+/// Turns that are taken one after another, and then anew: at most `MOST_TURNS`. They lie in the value itself, so that no
+/// call takes memory.
 #[derive(Drop)]
 pub struct Turns {
     places: [Letter; MOST_TURNS],
@@ -28,7 +28,7 @@ impl Model for Turns {
     ghost invariant = { λ t. t.used ≤ 64 };
 }
 
-// Whether the letter names a follower that there is, or none.
+// Whether the letter, where it is a follower's, names one of so many.
 fn is_letter(letter: Letter, readers: u32) -> bool
     ensures { result ≡ is_letter readers letter }
 {

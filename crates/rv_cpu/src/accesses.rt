@@ -1,5 +1,5 @@
 //! Loads and stores. (Unprivileged manual, 2.6.)
-ghost use Rattle.std.specs.Prelude.{◌≡◌, ℕ, ◌%◌, ◌==◌, ◌&&◌, true, false, length, None, if◌then◌else◌};
+ghost use Rattle.std.specs.Prelude.{◌≡◌, ◌%◌, ◌==◌, ◌&&◌, true, false, length, None, if◌then◌else◌};
 ghost use Rattle.memory_map.specs.Ram.{InRam, IsWidth, in_ram};
 ghost use Rattle.rv_decode.specs.Valid.{IsRegister};
 ghost use Rattle.memory_map.specs.Device.{is_device};
@@ -26,7 +26,7 @@ pub fn is_aligned(address: u32, width: u32) -> bool
     address & (width - 1) == 0
 }
 
-/// The low bytes of a word.
+/// So many low bytes of a word, extended by zero.
 #[inline(always)]
 pub fn low_bytes(width: u32, word: u32) -> u32
     requires { IsWidth width }
@@ -39,7 +39,7 @@ pub fn low_bytes(width: u32, word: u32) -> u32
     }
 }
 
-// What a device register supplied, and its mark; 0 where nothing was supplied.
+// What a device register supplied; 0 where nothing was supplied.
 fn value_of(supplied: Option<Supplied>) -> u32
     ensures { result ≡ model.value_of supplied }
 {
@@ -49,6 +49,7 @@ fn value_of(supplied: Option<Supplied>) -> u32
     }
 }
 
+// The mark of what it supplied; 0 where nothing was supplied.
 fn mark_of(supplied: Option<Supplied>) -> u8
     ensures { result ≡ model.mark_of supplied }
 {
@@ -90,7 +91,7 @@ impl Engine {
         }
     }
 
-    // Loads from RAM, with the width of the operation; where the address is misaligned or elsewhere, nothing.
+    // Loads from RAM, with the width of the operation; where the address is misaligned or elsewhere, nothing is done.
     #[inline(always)]
     fn try_load(
         &mut self,
@@ -116,7 +117,7 @@ impl Engine {
         }
     }
 
-    /// Loads from RAM; where the address is misaligned or elsewhere, nothing.
+    /// Loads from RAM; where the address is misaligned or elsewhere, nothing is done.
     #[inline(always)]
     pub fn load_plainly(&mut self, size: u32, op: LoadOp, rd: u32, rs1: u32, offset: u32) -> Done
         requires rd { IsRegister rd }
@@ -217,7 +218,7 @@ impl Engine {
         }
     }
 
-    // Stores to RAM, with the width of the operation; where the address is misaligned or elsewhere, nothing.
+    // Stores to RAM, with the width of the operation; where the address is misaligned or elsewhere, nothing is done.
     #[inline(always)]
     fn try_store(
         &mut self,
@@ -244,7 +245,7 @@ impl Engine {
         }
     }
 
-    /// Stores to RAM; where the address is misaligned or elsewhere, nothing.
+    /// Stores to RAM; where the address is misaligned or elsewhere, nothing is done.
     #[inline(always)]
     pub fn store_plainly(&mut self, size: u32, op: StoreOp, rs2: u32, rs1: u32, offset: u32) -> Done
         requires rs2 { IsRegister rs2 }

@@ -1,5 +1,5 @@
 //! What the operations compute, on words. (Unprivileged manual, chapters 2, 7, 8 and 9.)
-ghost use Rattle.std.specs.Prelude.{◌≡◌, ◌⊎◌, ℕ, ◌*◌, ◌^◌, ◌<◌, ◌≤◌, int_lt, ℤ, pos, ◌-ℤ◌, ◌*ℤ◌, ◌≤ℤ◌, ◌<ℤ◌};
+ghost use Rattle.std.specs.Prelude.{◌≡◌, ◌*◌, ◌^◌, ◌<◌, ◌≤◌, int_lt, ℤ, pos, ◌-ℤ◌, ◌*ℤ◌, ◌≤ℤ◌, ◌<ℤ◌};
 ghost use Rattle.memory_map.specs.Ram.{IsWidth};
 ghost use Rattle.hart_model.specs.Operations as operations;
 
@@ -63,6 +63,7 @@ fn upper_half(product: i64) -> u32
     ((product >> 32) as i32).cast_unsigned()
 }
 
+// MULH: the upper half of the product of two signed numbers.
 #[inline(always)]
 fn high_signed(a: u32, b: u32) -> u32
     ensures { result ≡ operations.upper (operations.signed a *ℤ operations.signed b) }
@@ -70,6 +71,7 @@ fn high_signed(a: u32, b: u32) -> u32
     upper_half(widen(a) * widen(b))
 }
 
+// MULHSU: the upper half of the product of a signed and an unsigned number.
 #[inline(always)]
 fn high_mixed(a: u32, b: u32) -> u32
     ensures { result ≡ operations.upper (operations.signed a *ℤ pos b) }
@@ -77,6 +79,7 @@ fn high_mixed(a: u32, b: u32) -> u32
     upper_half(widen(a) * i64::from(b))
 }
 
+// MULHU: the upper half of the product of two unsigned numbers.
 #[inline(always)]
 fn high_unsigned(a: u32, b: u32) -> u32
     ensures { result ≡ operations.register_result RegOp.Mulhu a b }
@@ -84,6 +87,7 @@ fn high_unsigned(a: u32, b: u32) -> u32
     (u64::from(a) * u64::from(b) >> 32) as u32
 }
 
+// DIV: the signed quotient, rounded towards 0. By 0 it is -1; the least number by -1 is the least number.
 #[inline(always)]
 fn quotient(a: u32, b: u32) -> u32
     ensures { result ≡ operations.quotient a b }
@@ -97,6 +101,7 @@ fn quotient(a: u32, b: u32) -> u32
     }
 }
 
+// DIVU: the unsigned quotient. By 0 it is the greatest number.
 #[inline(always)]
 fn quotient_unsigned(a: u32, b: u32) -> u32
     ensures { result ≡ operations.quotient_unsigned a b }
@@ -104,6 +109,7 @@ fn quotient_unsigned(a: u32, b: u32) -> u32
     if b == 0 { u32::MAX } else { a / b }
 }
 
+// REM: the signed remainder, with the sign of what is divided. By 0 it is that number; the least number by -1 leaves 0.
 #[inline(always)]
 fn remainder(a: u32, b: u32) -> u32
     ensures { result ≡ operations.remainder a b }
@@ -117,6 +123,7 @@ fn remainder(a: u32, b: u32) -> u32
     }
 }
 
+// REMU: the unsigned remainder. By 0 it is the number that is divided.
 #[inline(always)]
 fn remainder_unsigned(a: u32, b: u32) -> u32
     ensures { result ≡ operations.remainder_unsigned a b }
@@ -195,7 +202,7 @@ fn extend_halfword(word: u32) -> u32
     if low < 0x8000 { low } else { low + 0xffff_0000 }
 }
 
-/// What a load writes to its register, of a word of which it takes the low bytes. (2.6)
+/// What a load writes to its register: the low bytes of a word, extended by their sign or by zero. (2.6)
 #[inline(always)]
 pub fn loaded(op: LoadOp, word: u32) -> u32
     ensures { result ≡ operations.load_result op word }

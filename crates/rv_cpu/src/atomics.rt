@@ -1,5 +1,5 @@
 //! Atomics, which go to RAM alone. (Unprivileged manual, chapter 8.)
-ghost use Rattle.std.specs.Prelude.{◌≡◌, ℕ, length};
+ghost use Rattle.std.specs.Prelude.{◌≡◌, length};
 ghost use Rattle.memory_map.specs.Ram.{InRam};
 ghost use Rattle.rv_decode.specs.Valid.{IsRegister};
 ghost use Rattle.hart_model.specs.Effect as model;

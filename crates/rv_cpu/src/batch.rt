@@ -1,6 +1,6 @@
 //! Plain steps without events: the pc is kept beside the hart, and the counters rise once, at the end.
 ghost use Rattle.memory_map.specs.declared.TheConstants.{MOST_STEPS};
-ghost use Rattle.std.specs.Prelude.{◌≡◌, ℕ, ◌+◌, ◌<◌, ◌≤◌, None, IsTrue, false, if◌then◌else◌};
+ghost use Rattle.std.specs.Prelude.{◌≡◌, ◌+◌, ◌<◌, ◌≤◌, None, IsTrue, false, if◌then◌else◌};
 ghost use Rattle.rv_decode.specs.Valid.{IsRegister, IsValid};
 ghost use Rattle.hart_model.specs.Effect as model;
 ghost use Rattle.hart_model.specs.Effect.{Does};
@@ -35,7 +35,7 @@ fn count_steps(csrs: &mut Csrs, count: u32)
 impl Engine {
     // Writes a register, and goes on to the instruction after this one.
     #[inline(always)]
-    fn give(&mut self, size: u32, pc: u32, rd: u32, value: u32) -> Option<u32>
+    fn batch_write(&mut self, size: u32, pc: u32, rd: u32, value: u32) -> Option<u32>
         requires { IsRegister rd }
         ensures { going result (from self.new pc)
             ≡ goes (from self.old pc) (Does (model.writing (from self.old pc) size rd value)) }
@@ -46,7 +46,7 @@ impl Engine {
 
     // Goes to a target, with the address of the instruction after this one in rd, if an instruction can begin there.
     #[inline(always)]
-    fn leap(&mut self, size: u32, pc: u32, rd: u32, target: u32) -> Option<u32>
+    fn batch_jump(&mut self, size: u32, pc: u32, rd: u32, target: u32) -> Option<u32>
         requires { IsRegister rd }
         ensures { going result (from self.new pc)
             ≡ goes_plainly (from self.old pc) (model.jumping (from self.old pc) size rd target) }
@@ -60,7 +60,7 @@ impl Engine {
 
     // Goes to a target where the test on two registers holds; else on.
     #[inline(always)]
-    fn fork(&mut self, size: u32, pc: u32, taken: bool, target: u32) -> Option<u32>
+    fn batch_branch(&mut self, size: u32, pc: u32, taken: bool, target: u32) -> Option<u32>
         ensures { going result (from self.new pc)
             ≡ goes_plainly (from self.old pc)
             (if taken
@@ -68,13 +68,13 @@ impl Engine {
             else Does (model.going_on (from self.old pc) size)) }
     {
         if taken {
-            self.leap(size, pc, 0, target)
+            self.batch_jump(size, pc, 0, target)
         } else {
-            self.give(size, pc, 0, 0)
+            self.batch_write(size, pc, 0, 0)
         }
     }
 
-    // Loads from RAM.
+    // Loads from RAM and goes on; where the address is misaligned or elsewhere, nothing is done.
     #[inline(always)]
     fn batch_load_as(
         &mut self,
@@ -98,10 +98,10 @@ impl Engine {
             return None;
         }
         let value = self.ram.load(address, width);
-        self.give(size, pc, rd, alu::loaded(op, value))
+        self.batch_write(size, pc, rd, alu::loaded(op, value))
     }
 
-    // A body of its own for each operation, in which the compiler knows the width.
+    // The same, with a body of its own for each operation, in which the compiler knows the width.
     #[inline(always)]
     fn batch_load(
         &mut self,
@@ -128,7 +128,7 @@ impl Engine {
         }
     }
 
-    // Stores to RAM.
+    // Stores to RAM and goes on; where the address is misaligned or elsewhere, nothing is done.
     #[inline(always)]
     fn batch_store_as(
         &mut self,
@@ -153,10 +153,10 @@ impl Engine {
         }
         let value = low_bytes(width, self.register(rs2));
         self.ram.store(address, width, value);
-        self.give(size, pc, 0, 0)
+        self.batch_write(size, pc, 0, 0)
     }
 
-    // The same for stores.
+    // The same, with a body of its own for each operation.
     #[inline(always)]
     fn batch_store(
         &mut self,
@@ -181,7 +181,7 @@ impl Engine {
         }
     }
 
-    // Does a plain instruction at a pc, and answers where it goes on; of another one, nothing. (Unprivileged manual,
+    // Does a plain instruction at a pc, and answers where it goes on; for another one nothing is done. (Unprivileged manual,
     // chapters 2 and 7.)
     #[tactic(auto, unfolding(hart_model::specs::Step::outcome))]
     #[inline(always)]
@@ -190,18 +190,23 @@ impl Engine {
         ensures { going result (from self.new pc) ≡ goes_by (from self.old pc) size instr }
     {
         match instr {
-            Instr::Lui { rd, imm } => self.give(size, pc, rd, imm.cast_unsigned()),
+            Instr::Lui { rd, imm } => self.batch_write(size, pc, rd, imm.cast_unsigned()),
             Instr::Auipc { rd, imm } => {
-                self.give(size, pc, rd, pc.wrapping_add(imm.cast_unsigned()))
+                self.batch_write(size, pc, rd, pc.wrapping_add(imm.cast_unsigned()))
             }
-            Instr::Jal { rd, imm } => self.leap(size, pc, rd, pc.wrapping_add(imm.cast_unsigned())),
+            Instr::Jal { rd, imm } => self.batch_jump(
+                size,
+                pc,
+                rd,
+                pc.wrapping_add(imm.cast_unsigned()),
+            ),
             Instr::Jalr { rd, rs1, imm } => {
                 let sum = self.register(rs1).wrapping_add(imm.cast_unsigned());
-                self.leap(size, pc, rd, sum - sum % 2)
+                self.batch_jump(size, pc, rd, sum - sum % 2)
             }
             Instr::Branch { op, rs1, rs2, imm } => {
                 let taken = self.takes_branch(op, rs1, rs2);
-                self.fork(size, pc, taken, pc.wrapping_add(imm.cast_unsigned()))
+                self.batch_branch(size, pc, taken, pc.wrapping_add(imm.cast_unsigned()))
             }
             Instr::Load { op, rd, rs1, imm } => {
                 self.batch_load(size, pc, op, rd, rs1, imm.cast_unsigned())
@@ -211,11 +216,11 @@ impl Engine {
             }
             Instr::OpImm { op, rd, rs1, imm } => {
                 let value = self.immediate(op, rs1, imm.cast_unsigned());
-                self.give(size, pc, rd, value)
+                self.batch_write(size, pc, rd, value)
             }
             Instr::Op { op, rd, rs1, rs2 } => {
                 let value = alu::register(op, self.register(rs1), self.register(rs2));
-                self.give(size, pc, rd, value)
+                self.batch_write(size, pc, rd, value)
             }
             _ => None,
         }
@@ -236,7 +241,7 @@ impl Engine {
         }
     }
 
-    /// Ends so many plain steps: the pc and the counters.
+    /// Ends so many plain steps, of which the last one goes on at `pc`: sets the pc, and raises the counters.
     pub fn catch_up(&mut self, pc: u32, count: u32)
         requires { self.old.step + count ≤ MOST_STEPS }
         ensures { self.new ≡ caught_up count (from self.old pc) }

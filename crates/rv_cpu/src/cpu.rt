@@ -1,6 +1,6 @@
 //! The hart as its callers see it.
 ghost use Rattle.memory_map.specs.declared.TheConstants.{MOST_STEPS};
-ghost use Rattle.std.specs.Prelude.{◌≡◌, ◌+◌, ◌*◌, ◌%◌, ◌<◌, ◌≤◌, ℕ, false, None, Some, IfSome, IsTrue, is_some, length, slice_index};
+ghost use Rattle.std.specs.Prelude.{◌≡◌, ◌+◌, ◌*◌, ◌%◌, ◌<◌, ◌≤◌, ℕ, false, Some, IfSome, IsTrue, is_some, length};
 ghost use Rattle.any_machine.specs.Machine.{is_load};
 ghost use Rattle.run_events.specs.Event.{Fits};
 
@@ -165,7 +165,7 @@ impl Cpu {
         self.engine.pc
     }
 
-    /// What a register holds.
+    /// What the register x`index` holds.
     pub fn register(&self, index: u32) -> u32
         requires { index < 32 }
         ensures { result ≡ register self.now index }

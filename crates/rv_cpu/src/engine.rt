@@ -1,5 +1,5 @@
 //! The hart's state, and what its instructions take from it and leave in it.
-ghost use Rattle.std.specs.Prelude.{◌≡◌, ℕ};
+ghost use Rattle.std.specs.Prelude.{◌≡◌};
 ghost use Rattle.rv_decode.specs.Valid.{IsRegister};
 
 use run_events::Told;
@@ -11,10 +11,13 @@ use std::marker::Model;
 #[derive(Drop)]
 pub struct Engine {
     pub registers: [u32; 32],
+    /// The address of the next instruction.
     pub pc: u32,
     pub csrs: Csrs,
     pub ram: Ram,
+    /// The address of the word that is reserved, if one is.
     pub reserved: Option<u32>,
+    /// The number of steps done.
     pub steps: u32,
 }
 

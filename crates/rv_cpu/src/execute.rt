@@ -1,5 +1,5 @@
 //! Every instruction.
-ghost use Rattle.std.specs.Prelude.{◌≡◌, ℕ};
+ghost use Rattle.std.specs.Prelude.{◌≡◌};
 ghost use Rattle.rv_decode.specs.Valid.{IsValid};
 ghost use Rattle.hart_model.specs.Step.{outcome};
 ghost use Rattle.rv_cpu.specs.Midway.{at, midway};

@@ -59,6 +59,7 @@ impl Engine {
             ≡ (event, self.new)) }
         ensures none { is_some result ≡ false → self.new ≡ self.old }
     {
+        // the contract alone speaks of the lines
         let _lines = lines;
         match instr {
             Instr::Load { op, rd, rs1, imm } => {

@@ -1,5 +1,5 @@
 //! Instructions that access no data: they write a register, or go elsewhere. (Unprivileged manual, 2.4 and 2.5.)
-ghost use Rattle.std.specs.Prelude.{◌≡◌, ℕ, if◌then◌else◌};
+ghost use Rattle.std.specs.Prelude.{◌≡◌, if◌then◌else◌};
 ghost use Rattle.rv_decode.specs.Valid.{IsRegister};
 ghost use Rattle.hart_model.specs.Operations.{sum};
 ghost use Rattle.hart_model.specs.Effect as model;
@@ -81,7 +81,7 @@ impl Engine {
         }
     }
 
-    /// Branches to a target where the test on two registers holds; else goes on.
+    /// `branch` where it raises no exception; else nothing.
     #[inline(always)]
     pub fn branch_plainly(&mut self, size: u32, taken: bool, target: u32) -> Done
         ensures { at size result self.new
@@ -97,7 +97,8 @@ impl Engine {
         }
     }
 
-    /// The same as the whole instruction: a branch that is taken to where no instruction can begin is exception 0.
+    /// Branches to a target where the test on two registers holds; else goes on. Where the branch is taken and no instruction
+    /// can begin at the target, it is exception 0.
     pub fn branch(&mut self, size: u32, taken: bool, target: u32) -> Done
         ensures { at size result self.new
             ≡ midway self.old

@@ -1,6 +1,6 @@
 //! Plain steps: their instructions are no fences, no atomics and none of the privileged manual, raise no exception and
 //! access no device.
-ghost use Rattle.std.specs.Prelude.{◌≡◌, ℕ, None};
+ghost use Rattle.std.specs.Prelude.{◌≡◌, None};
 ghost use Rattle.rv_decode.specs.Valid.{IsValid};
 ghost use Rattle.hart_model.specs.Step.{outcome};
 ghost use Rattle.rv_cpu.specs.Midway.{at, executed_plainly};

@@ -1,10 +1,9 @@
 //! Plain steps that are shown: the counters rise once, at the end.
 ghost use Rattle.memory_map.specs.declared.TheConstants.{MOST_STEPS};
-ghost use Rattle.std.specs.Prelude.{◌≡◌, ℕ, false, ◌+◌, ◌*◌, ◌<◌, ◌≤◌, List, ◌∷◌, [], ◌++◌, Option, None, Some, is_some, length};
+ghost use Rattle.std.specs.Prelude.{◌≡◌, false, ◌+◌, ◌*◌, ◌<◌, ◌≤◌, List, ◌∷◌, [], ◌++◌, Some, is_some, length};
 ghost use Rattle.any_machine.specs.Running.{RunSoFar, unfed};
 ghost use Rattle.run_events.specs.declared.event.Event.{Event};
 ghost use Rattle.run_events.specs.Event.{Fits};
-ghost use Rattle.rv_csr.specs.Traps.{pending};
 ghost use Rattle.hart_model.specs.Aligned.{IsAligned};
 ghost use Rattle.hart_model.specs.Machine.{hart};
 ghost use Rattle.hart_model.specs.State.{State};

@@ -1,6 +1,6 @@
 //! One step.
 ghost use Rattle.memory_map.specs.declared.TheConstants.{MOST_STEPS};
-ghost use Rattle.std.specs.Prelude.{◌≡◌, ℕ, ◌+◌, ◌<◌, true, None, Some, IsTrue};
+ghost use Rattle.std.specs.Prelude.{◌≡◌, ◌+◌, ◌<◌, true, None, Some, IsTrue};
 ghost use Rattle.rv_decode.specs.Valid.{IsRegister, IsValid};
 ghost use Rattle.hart_model.specs.Machine.{holds_word};
 ghost use Rattle.hart_model.specs.Effect as model;
@@ -16,7 +16,7 @@ use run_events::{Access, Event, Supplied, Told};
 use rv_csr::causes::{ILLEGAL_INSTRUCTION, INSTRUCTION_FAULT};
 use rv_decode::{Instr, LoadOp, StoreOp, decode};
 
-/// The bytes of an instruction.
+/// How many bytes an instruction has.
 pub const SIZE: u32 = 4;
 
 impl Engine {
@@ -97,7 +97,7 @@ impl Engine {
         }
     }
 
-    // Does the step of an instruction, of any kind.
+    // Does the step of an instruction, in one way for all kinds.
     fn run(
         &mut self,
         lines: u8,
@@ -164,10 +164,11 @@ impl Engine {
         self.conclude(word, size, told, done)
     }
 
-    // Does the step of an instruction. Loads and stores are done right here: guests that wait for devices are full of them.
+    // Does the step of an instruction, of any kind. Loads and stores are done right here: guests that wait for devices are
+    // full of them.
     #[tactic(auto, unfolding(hart_model::specs::Step::outcome))]
     #[inline(always)]
-    fn run_shortly(
+    fn run_decoded(
         &mut self,
         lines: u8,
         supplied: Option<Supplied>,
@@ -205,12 +206,12 @@ impl Engine {
         }
         let word = self.ram.load(self.pc, SIZE);
         match decode(word) {
-            Some(instr) => self.run_shortly(lines, supplied, word, SIZE, instr),
+            Some(instr) => self.run_decoded(lines, supplied, word, SIZE, instr),
             None => self.trap(word, ILLEGAL_INSTRUCTION, word),
         }
     }
 
-    /// The disk writes a word into RAM before the next step, and ends a reservation of it.
+    /// The disk writes a word into RAM before the next step, and ends a reservation of it. It answers what that shows.
     pub fn dma(&mut self, address: u32, word: u32, mark: u8) -> Event
         requires { IsTrue (holds_word self.old address) }
         ensures { touch self.old (record { address = address; word = word; mark = mark })

@@ -1,6 +1,6 @@
 //! The instructions of the control and status registers, and MRET. (Unprivileged manual, chapter 9; Privileged manual,
 //! 3.3.2.)
-ghost use Rattle.std.specs.Prelude.{◌≡◌, ℕ, Some, if◌then◌else◌};
+ghost use Rattle.std.specs.Prelude.{◌≡◌, Some};
 ghost use Rattle.rv_csr.specs.Table.{written};
 ghost use Rattle.rv_csr.specs.Traps.{left};
 ghost use Rattle.rv_decode.specs.Valid.{IsRegister};
@@ -27,7 +27,7 @@ impl Engine {
         }
     }
 
-    // Its operand: a register, or the number in the register's place.
+    // The operand of a CSR instruction: what a register holds, or the number in the register's place.
     fn csr_operand(&self, op: CsrOp, source: u32) -> u32
         requires { IsRegister source }
         ensures { result ≡ model.csr_operand self.now op source }

@@ -14,7 +14,7 @@ pub const MSTATUSH: u32 = 0x310;
 pub const MCOUNTINHIBIT: u32 = 0x320;
 /// The first register that chooses the events of a performance counter.
 pub const MHPMEVENT3: u32 = 0x323;
-/// The last one.
+/// The last register that chooses the events of a performance counter.
 pub const MHPMEVENT31: u32 = 0x33f;
 /// A word for the trap handler.
 pub const MSCRATCH: u32 = 0x340;
@@ -28,11 +28,11 @@ pub const MTVAL: u32 = 0x343;
 pub const MIP: u32 = 0x344;
 /// The first register of the configuration of physical memory protection.
 pub const PMPCFG0: u32 = 0x3a0;
-/// The last one.
+/// The last register of the configuration of physical memory protection.
 pub const PMPCFG15: u32 = 0x3af;
 /// The first register of the addresses of physical memory protection.
 pub const PMPADDR0: u32 = 0x3b0;
-/// The last one.
+/// The last register of the addresses of physical memory protection.
 pub const PMPADDR63: u32 = 0x3ef;
 /// The lower half of the counter of cycles.
 pub const MCYCLE: u32 = 0xb00;
@@ -40,7 +40,7 @@ pub const MCYCLE: u32 = 0xb00;
 pub const MINSTRET: u32 = 0xb02;
 /// The lower half of the first performance counter.
 pub const MHPMCOUNTER3: u32 = 0xb03;
-/// The lower half of the last one.
+/// The lower half of the last performance counter.
 pub const MHPMCOUNTER31: u32 = 0xb1f;
 /// The upper half of the counter of cycles.
 pub const MCYCLEH: u32 = 0xb80;
@@ -48,9 +48,9 @@ pub const MCYCLEH: u32 = 0xb80;
 pub const MINSTRETH: u32 = 0xb82;
 /// The upper half of the first performance counter.
 pub const MHPMCOUNTER3H: u32 = 0xb83;
-/// The upper half of the last one.
+/// The upper half of the last performance counter.
 pub const MHPMCOUNTER31H: u32 = 0xb9f;
 /// The first of the registers that identify the machine: vendor, architecture, implementation, hart and configuration.
 pub const MVENDORID: u32 = 0xf11;
-/// The last one.
+/// The last of the registers that identify the machine.
 pub const MCONFIGPTR: u32 = 0xf15;

@@ -2,8 +2,8 @@
 ghost use Rattle.std.specs.Prelude.{◌≡◌};
 ghost use Rattle.rv_csr.specs.Csrs.{reset};
 
-/// The control and status registers, each as the numbers that it holds. All other registers of machine mode read a
-/// constant or the interrupt lines.
+/// The control and status registers that hold something, each as what it holds. All other registers of machine mode read
+/// a constant or the interrupt lines.
 #[derive(Clone, Copy, Debug, PartialEq, Eq)]
 pub struct Csrs {
     /// mstatus.MIE: interrupts are taken.
@@ -14,10 +14,15 @@ pub struct Csrs {
     pub timer_enabled: bool,
     /// mie.MEIE: the external interrupt is enabled.
     pub external_enabled: bool,
+    /// Where traps go: the address of the handlers, and in bit 0 whether each interrupt has its own.
     pub mtvec: u32,
+    /// A word for the trap handler.
     pub mscratch: u32,
+    /// The pc that the last trap came to.
     pub mepc: u32,
+    /// The cause of the last trap.
     pub mcause: u32,
+    /// The value that goes with that cause.
     pub mtval: u32,
     /// The number of steps, unless it was written.
     pub mcycle: u64,
@@ -25,7 +30,7 @@ pub struct Csrs {
     pub minstret: u64,
     /// A half of mcycle was written since the last step ended, so it does not rise when this step ends.
     pub mcycle_written: bool,
-    /// The same of minstret.
+    /// A half of minstret was written since the last step ended, so it does not rise when this step ends.
     pub minstret_written: bool,
 }
 

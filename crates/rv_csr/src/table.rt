@@ -10,7 +10,23 @@ use crate::addresses::{
 use crate::csrs::Csrs;
 use memory_map::{GRAIN, high_half, low_half, with_high, with_low};
 
-// A bit of a word.
+// The bits of mstatus that hold something, by their numbers. (Privileged manual, 3.1.6.)
+const STATUS_MIE: u32 = 3;
+
+const STATUS_MPIE: u32 = 7;
+
+// The previous mode in mstatus, which is machine mode always.
+const STATUS_MPP: u32 = 0x1800;
+
+// The bits of the timer's and of the external interrupt in mie and mip, by their numbers. (Privileged manual, 3.1.9.)
+const TIMER: u32 = 7;
+
+const EXTERNAL: u32 = 11;
+
+// What misa reads: registers of 32 bits, and the letters A, I and M. (Privileged manual, 3.1.1.)
+const RV32IMA: u32 = 0x4000_1101;
+
+// Whether this bit of a word is set.
 fn has_bit(bit: u32, word: u32) -> bool
     requires { bit < 32 }
     ensures { result ≡ model.has_bit bit word }
@@ -26,7 +42,7 @@ fn bit_if(bit: u32, flag: bool) -> u32
     if flag { 1 << bit } else { 0 }
 }
 
-// Whether bits 11:10 of an address are 11.
+// Whether bits 11:10 of an address are 11: such a register is only read.
 fn is_read_only(address: u32) -> bool
     ensures { result ≡ model.is_read_only address }
 {
@@ -34,20 +50,23 @@ fn is_read_only(address: u32) -> bool
 }
 
 impl Csrs {
+    // Keeps of a value what mstatus holds.
     fn set_mstatus(&mut self, value: u32)
         ensures { self.new ≡ model.with_mstatus self.old value }
     {
-        self.interrupts = has_bit(3, value);
-        self.interrupts_before = has_bit(7, value);
+        self.interrupts = has_bit(STATUS_MIE, value);
+        self.interrupts_before = has_bit(STATUS_MPIE, value);
     }
 
+    // Keeps of a value what mie holds.
     fn set_mie(&mut self, value: u32)
         ensures { self.new ≡ model.with_mie self.old value }
     {
-        self.timer_enabled = has_bit(7, value);
-        self.external_enabled = has_bit(11, value);
+        self.timer_enabled = has_bit(TIMER, value);
+        self.external_enabled = has_bit(EXTERNAL, value);
     }
 
+    // Gives mcycle a value, which the end of this step leaves alone.
     fn set_mcycle(&mut self, counter: u64)
         ensures { self.new ≡ model.with_mcycle self.old counter }
     {
@@ -55,6 +74,7 @@ impl Csrs {
         self.mcycle_written = true;
     }
 
+    // Gives minstret a value, which the end of this step leaves alone.
     fn set_minstret(&mut self, counter: u64)
         ensures { self.new ≡ model.with_minstret self.old counter }
     {
@@ -69,15 +89,19 @@ impl Csrs {
         ensures { result ≡ model.read self.now address lines }
     {
         let value = match address {
-            MSTATUS => 0x1800 + bit_if(7, self.interrupts_before) + bit_if(3, self.interrupts),
-            MISA => 0x4000_1101,
-            MIE => bit_if(11, self.external_enabled) + bit_if(7, self.timer_enabled),
+            MSTATUS => {
+                STATUS_MPP
+                    + bit_if(STATUS_MPIE, self.interrupts_before)
+                    + bit_if(STATUS_MIE, self.interrupts)
+            }
+            MISA => RV32IMA,
+            MIE => bit_if(EXTERNAL, self.external_enabled) + bit_if(TIMER, self.timer_enabled),
             MTVEC => self.mtvec,
             MSCRATCH => self.mscratch,
             MEPC => self.mepc,
             MCAUSE => self.mcause,
             MTVAL => self.mtval,
-            MIP => bit_if(11, lines / 2 % 2 == 1) + bit_if(7, lines % 2 == 1),
+            MIP => bit_if(EXTERNAL, lines / 2 % 2 == 1) + bit_if(TIMER, lines % 2 == 1),
             MCYCLE => low_half(self.mcycle),
             MINSTRET => low_half(self.minstret),
             MCYCLEH => high_half(self.mcycle),
@@ -109,6 +133,7 @@ impl Csrs {
         match address {
             MSTATUS => self.set_mstatus(value),
             MIE => self.set_mie(value),
+            // the modes are 0 and 1, so that bit 1 stays 0
             MTVEC => self.mtvec = value - value / 2 % 2 * 2,
             MSCRATCH => self.mscratch = value,
             MEPC => self.mepc = value - value % GRAIN,

@@ -6,8 +6,8 @@ use crate::causes::{EXTERNAL_INTERRUPT, TIMER_INTERRUPT};
 use crate::csrs::Csrs;
 
 impl Csrs {
-    /// Enters a trap with this cause and value at this pc, and answers the pc of its handler: mtvec's base, or in vectored
-    /// mode and for an interrupt the word of its number from there on, modulo 2^32. (Privileged manual, 3.1.6 and 3.1.7.)
+    /// Enters a trap with this cause and value at this pc, and answers the pc of its handler: mtvec's base, and for an
+    /// interrupt in vectored mode four times its number more, modulo 2^32. (Privileged manual, 3.1.6 and 3.1.7.)
     pub fn enter(&mut self, cause: u32, pc: u32, value: u32) -> u32
         ensures handler { result ≡ model.vector self.old cause }
         ensures after { self.new ≡ model.entered self.old cause pc value }
@@ -17,6 +17,7 @@ impl Csrs {
         self.mepc = pc;
         self.mcause = cause;
         self.mtval = value;
+        // the lower two bits of mtvec are its mode, and the upper bit of a cause says that it is an interrupt
         let base = self.mtvec - self.mtvec % 4;
         if self.mtvec % 2 == 1 && cause >= 0x8000_0000 {
             base.wrapping_add((cause % 0x8000_0000).wrapping_mul(4))

@@ -1,6 +1,5 @@
 //! From a word to an instruction.
-ghost use Rattle.std.specs.Prelude.{◌≡◌, ℕ, ◌%◌, ◌^◌, ◌++◌, ◌≤◌, count_by, IfSome};
-ghost use Rattle.rv_decode.specs.Fields.{opcode_of};
+ghost use Rattle.std.specs.Prelude.{◌≡◌, ◌%◌, ◌≤◌, count_by, IfSome};
 ghost use Rattle.rv_decode.specs.Listing.{meets, rows, instruction};
 ghost use Rattle.rv_decode.specs.Valid.{IsValid};
 ghost use Rattle.rv_decode.specs.Words.{encoded};
@@ -21,6 +20,7 @@ pub fn decode(word: u32) -> Option<Instr>
     by_opcode(word)
 }
 
+// What a word spells, an opcode at a time.
 #[tactic(auto, using(crate::proofs::ListingLaws::opcodes))]
 #[inline(always)]
 fn by_opcode(word: u32) -> Option<Instr>

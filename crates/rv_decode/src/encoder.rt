@@ -7,7 +7,7 @@ ghost use Rattle.rv_decode.specs.Words.{encoded};
 use crate::codes;
 use crate::instruction::Instr;
 use crate::places::{
-    joined, joined_b, joined_i, joined_s, joined_u, operand, twelve, upper_j, upper_u,
+    joined, joined_b, joined_i, joined_s, joined_u, operand, upper_i, upper_j, upper_u,
 };
 
 /// The word that spells an instruction. (Unprivileged manual, 2.2, 2.3 and chapter 24.)
@@ -30,9 +30,9 @@ fn word_of(i: Instr) -> u32
         Instr::Lui { rd, imm } => joined_u(0x37, rd, upper_u(imm)),
         Instr::Auipc { rd, imm } => joined_u(0x17, rd, upper_u(imm)),
         Instr::Jal { rd, imm } => joined_u(0x6f, rd, upper_j(imm)),
-        Instr::Jalr { rd, rs1, imm } => joined_i(0x67, rd, 0, rs1, twelve(imm)),
+        Instr::Jalr { rd, rs1, imm } => joined_i(0x67, rd, 0, rs1, upper_i(imm)),
         Instr::Branch { op, rs1, rs2, imm } => joined_b(0x63, codes::branch(op), rs1, rs2, imm),
-        Instr::Load { op, rd, rs1, imm } => joined_i(0x03, rd, codes::load(op), rs1, twelve(imm)),
+        Instr::Load { op, rd, rs1, imm } => joined_i(0x03, rd, codes::load(op), rs1, upper_i(imm)),
         Instr::Store { op, rs1, rs2, imm } => joined_s(0x23, codes::store(op), rs1, rs2, imm),
         Instr::OpImm { op, rd, rs1, imm } => {
             joined_i(0x13, rd, codes::immediate(op), rs1, operand(op, imm))
@@ -41,7 +41,13 @@ fn word_of(i: Instr) -> u32
             let high = codes::register7(op);
             joined(0x33, rd, codes::register(op), rs1, rs2, high)
         }
-        Instr::Fence { op, rd, rs1, imm } => joined_i(0x0f, rd, codes::fence(op), rs1, twelve(imm)),
+        Instr::Fence { op, rd, rs1, imm } => joined_i(
+            0x0f,
+            rd,
+            codes::fence(op),
+            rs1,
+            upper_i(imm),
+        ),
         Instr::Atomic {
             op,
             rd,

@@ -1,5 +1,5 @@
 //! The fields of a word, and the immediates that they spell. (Unprivileged manual, 2.2 and 2.3.)
-ghost use Rattle.std.specs.Prelude.{◌≡◌, ℕ, ◌+◌, ◌*◌, ◌/◌, ◌%◌, ◌^◌, ◌<◌};
+ghost use Rattle.std.specs.Prelude.{◌≡◌, ◌+◌, ◌*◌, ◌/◌, ◌%◌, ◌^◌, ◌<◌};
 ghost use Rattle.rv_decode.specs.Fields.{rd_of, funct3_of, rs1_of, rs2_of, immediate_i, immediate_s, immediate_b, immediate_u, immediate_j};
 
 /// Bits 11 to 7, the destination register.

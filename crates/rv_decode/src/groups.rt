@@ -1,14 +1,14 @@
-//! The instructions of each opcode, read. (Unprivileged manual, chapter 24.)
-ghost use Rattle.std.specs.Prelude.{◌≡◌, ◌⊎◌, ℕ, ◌%◌, ◌^◌, ◌++◌};
+//! The instructions of each opcode, and none where a word of the opcode spells none. (Unprivileged manual, chapter 24.)
+ghost use Rattle.std.specs.Prelude.{◌≡◌, ◌⊎◌, ◌++◌};
 ghost use Rattle.rv_decode.specs.Fields.{opcode_of, funct3_of};
 ghost use Rattle.rv_decode.specs.Listing.{read_by, jalrs, branches, loads, stores, immediates, registers, fences, atomics, csrs, bares};
-ghost use Rattle.rv_decode.specs.Listing.{branch as branch_row, load as load_row, store as store_row, immediate as immediate_row, shift as shift_row, register as register_row, fence as fence_row, atomic as atomic_row, csr as csr_row};
+ghost use Rattle.rv_decode.specs.Listing.{load as load_row, store as store_row, register as register_row, fence as fence_row, atomic as atomic_row, csr as csr_row};
 
 use crate::fields::{funct3, imm_b, imm_i, imm_s, rd, rs1, rs2};
 use crate::instruction::Instr;
 use crate::operations::{AtomicOp, BranchOp, CsrOp, FenceOp, ImmOp, LoadOp, RegOp, StoreOp};
 
-/// What a word of the opcode 67 reads: JALR.
+/// What a word of the opcode 0x67 spells: JALR.
 #[inline(always)]
 pub fn jalr(word: u32) -> Option<Instr>
     requires { opcode_of word ≡ 0x67 }
@@ -24,7 +24,7 @@ pub fn jalr(word: u32) -> Option<Instr>
     }
 }
 
-/// What a word of the opcode 63 reads: the branches.
+/// What a word of the opcode 0x63 spells: the branches.
 #[inline(always)]
 pub fn branch(word: u32) -> Option<Instr>
     requires { opcode_of word ≡ 0x63 }
@@ -43,6 +43,7 @@ pub fn branch(word: u32) -> Option<Instr>
     Some(Instr::Branch { op, rs1, rs2, imm })
 }
 
+// The load of a word, with this operation.
 #[inline(always)]
 fn load_of(op: LoadOp, word: u32) -> Instr
     ensures { result ≡ load_row op word }
@@ -55,7 +56,7 @@ fn load_of(op: LoadOp, word: u32) -> Instr
     }
 }
 
-/// What a word of the opcode 03 reads: the loads.
+/// What a word of the opcode 0x03 spells: the loads.
 #[inline(always)]
 pub fn load(word: u32) -> Option<Instr>
     requires { opcode_of word ≡ 0x03 }
@@ -72,6 +73,7 @@ pub fn load(word: u32) -> Option<Instr>
     Some(load_of(op, word))
 }
 
+// The store of a word, with this operation.
 #[inline(always)]
 fn store_of(op: StoreOp, word: u32) -> Instr
     ensures { result ≡ store_row op word }
@@ -84,7 +86,7 @@ fn store_of(op: StoreOp, word: u32) -> Instr
     }
 }
 
-/// What a word of the opcode 23 reads: the stores.
+/// What a word of the opcode 0x23 spells: the stores.
 #[inline(always)]
 pub fn store(word: u32) -> Option<Instr>
     requires { opcode_of word ≡ 0x23 }
@@ -99,7 +101,7 @@ pub fn store(word: u32) -> Option<Instr>
     Some(store_of(op, word))
 }
 
-// What a shift by an immediate reads.
+// What a word with the opcode and the funct3 of a shift by an immediate spells.
 #[inline(always)]
 fn shift(word: u32) -> Option<Instr>
     requires opcode { opcode_of word ≡ 0x13 }
@@ -116,7 +118,7 @@ fn shift(word: u32) -> Option<Instr>
     Some(Instr::OpImm { op, rd, rs1, imm })
 }
 
-/// What a word of the opcode 13 reads: the operations on an immediate.
+/// What a word of the opcode 0x13 spells: the operations on an immediate.
 #[inline(always)]
 pub fn immediate(word: u32) -> Option<Instr>
     requires { opcode_of word ≡ 0x13 }
@@ -135,6 +137,7 @@ pub fn immediate(word: u32) -> Option<Instr>
     Some(Instr::OpImm { op, rd, rs1, imm })
 }
 
+// The operation on registers of a word, with this operation.
 #[inline(always)]
 fn register_of(op: RegOp, word: u32) -> Instr
     ensures { result ≡ register_row op word }
@@ -147,7 +150,7 @@ fn register_of(op: RegOp, word: u32) -> Instr
     }
 }
 
-/// What a word of the opcode 33 reads: the operations on registers.
+/// What a word of the opcode 0x33 spells: the operations on registers.
 #[inline(always)]
 pub fn register(word: u32) -> Option<Instr>
     requires { opcode_of word ≡ 0x33 }
@@ -177,6 +180,7 @@ pub fn register(word: u32) -> Option<Instr>
     Some(register_of(op, word))
 }
 
+// The fence of a word, with this operation.
 #[inline(always)]
 fn fence_of(op: FenceOp, word: u32) -> Instr
     ensures { result ≡ fence_row op word }
@@ -189,7 +193,7 @@ fn fence_of(op: FenceOp, word: u32) -> Instr
     }
 }
 
-/// What a word of the opcode 0f reads: FENCE and FENCE.I.
+/// What a word of the opcode 0x0f spells: FENCE and FENCE.I.
 #[inline(always)]
 pub fn fence(word: u32) -> Option<Instr>
     requires { opcode_of word ≡ 0x0f }
@@ -202,6 +206,7 @@ pub fn fence(word: u32) -> Option<Instr>
     }
 }
 
+// The atomic of a word, with this operation.
 #[inline(always)]
 fn atomic_of(op: AtomicOp, word: u32) -> Instr
     ensures { result ≡ atomic_row op word }
@@ -215,7 +220,7 @@ fn atomic_of(op: AtomicOp, word: u32) -> Instr
     }
 }
 
-/// What a word of the opcode 2f reads: the atomics.
+/// What a word of the opcode 0x2f spells: the atomics, all of which are on words.
 #[inline(always)]
 pub fn atomic(word: u32) -> Option<Instr>
     requires { opcode_of word ≡ 0x2f }
@@ -241,6 +246,7 @@ pub fn atomic(word: u32) -> Option<Instr>
     Some(atomic_of(op, word))
 }
 
+// The CSR instruction of a word, with this operation.
 #[inline(always)]
 fn csr_of(op: CsrOp, word: u32) -> Instr
     ensures { result ≡ csr_row op word }
@@ -253,6 +259,7 @@ fn csr_of(op: CsrOp, word: u32) -> Instr
     }
 }
 
+// What a word without operands spells.
 #[inline(always)]
 fn bare(word: u32) -> Option<Instr>
     requires { opcode_of word ≡ 0x73 }
@@ -267,7 +274,7 @@ fn bare(word: u32) -> Option<Instr>
     }
 }
 
-/// What a word of the opcode 73 reads: the CSR instructions, ECALL, EBREAK, MRET and WFI.
+/// What a word of the opcode 0x73 spells: the CSR instructions, ECALL, EBREAK, MRET and WFI.
 #[inline(always)]
 pub fn system(word: u32) -> Option<Instr>
     requires { opcode_of word ≡ 0x73 }

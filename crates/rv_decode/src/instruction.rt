@@ -1,9 +1,9 @@
 //! Instructions and their fields.
 use crate::operations::{AtomicOp, BranchOp, CsrOp, FenceOp, ImmOp, LoadOp, RegOp, StoreOp};
 
-/// An instruction and its fields. `imm` is the immediate of the instruction's form, sign extended; in a shift by an
-/// immediate it is the rs2 field. `order` holds the acquire and release bits, `source` the rs1 field of a CSR
-/// instruction, and `csr` its address.
+/// An instruction and its fields, by its name in the manual; those that share a form have one variant, and `op` tells which
+/// it is. `imm` is the immediate of the instruction's form, sign extended; in a shift by an immediate it is the rs2 field.
+/// `order` holds the acquire and release bits, `source` the rs1 field of a CSR instruction, and `csr` its address.
 #[derive(Clone, Copy, Debug, PartialEq, Eq)]
 pub enum Instr {
     Lui {

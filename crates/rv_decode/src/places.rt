@@ -65,7 +65,7 @@ pub fn joined_b(opcode: u32, funct3: u32, rs1: u32, rs2: u32, imm: i32) -> u32
 }
 
 /// An immediate of form I as the upper twelve bits.
-pub fn twelve(imm: i32) -> u32
+pub fn upper_i(imm: i32) -> u32
     ensures value { result ≡ places_i (bits_of imm) }
     ensures below { result < 2 ^ 12 }
 {
@@ -79,8 +79,8 @@ pub fn operand(op: ImmOp, imm: i32) -> u32
     ensures below { result < 2 ^ 12 }
 {
     match op {
-        ImmOp::Srai => twelve(imm) + 0x400,
-        _ => twelve(imm),
+        ImmOp::Srai => upper_i(imm) + 0x400,
+        _ => upper_i(imm),
     }
 }
 

@@ -1,28 +1,32 @@
 //! Which instructions have a word.
-ghost use Rattle.std.specs.Prelude.{◌≡◌, ◌↔◌, ℕ, ◌<◌, ◌^◌, IsTrue, ℤ, pos, ◌≤ℤ◌, ◌<ℤ◌};
+ghost use Rattle.std.specs.Prelude.{◌↔◌, ◌<◌, ◌^◌, IsTrue};
 ghost use Rattle.rv_decode.specs.Valid.{IsRegister, IsSigned, IsMultiple, IsOperand, IsSecond, IsValid};
 
 use crate::instruction::Instr;
 use crate::operations::{AtomicOp, ImmOp};
 
+// Whether a register has this number.
 fn is_register(number: u32) -> bool
     ensures { IsTrue result ↔ IsRegister number }
 {
     number < 32
 }
 
+// Whether registers have these numbers.
 fn are_registers(first: u32, second: u32) -> bool
     ensures { IsTrue result ↔ IsRegister first × IsRegister second }
 {
     is_register(first) && is_register(second)
 }
 
+// Whether a number fits into 12 bits with a sign.
 fn is_signed_12(imm: i32) -> bool
     ensures { IsTrue result ↔ IsSigned 12 imm }
 {
     -0x800 <= imm && imm < 0x800
 }
 
+// Whether a number is a multiple of `n`.
 fn is_multiple(n: u32, imm: i32) -> bool
     requires { 0 < n }
     ensures { IsTrue result ↔ IsMultiple n imm }
@@ -30,24 +34,28 @@ fn is_multiple(n: u32, imm: i32) -> bool
     imm.unsigned_abs() % n == 0
 }
 
+// Whether form U can spell an immediate.
 fn is_upper(imm: i32) -> bool
     ensures { IsTrue result ↔ IsSigned 32 imm × IsMultiple (2 ^ 12) imm }
 {
     is_multiple(0x1000, imm)
 }
 
+// Whether form B can spell an immediate.
 fn is_branch_offset(imm: i32) -> bool
     ensures { IsTrue result ↔ IsSigned 13 imm × IsMultiple 2 imm }
 {
     -0x1000 <= imm && imm < 0x1000 && is_multiple(2, imm)
 }
 
+// Whether form J can spell an immediate.
 fn is_jump_offset(imm: i32) -> bool
     ensures { IsTrue result ↔ IsSigned 21 imm × IsMultiple 2 imm }
 {
     -0x10_0000 <= imm && imm < 0x10_0000 && is_multiple(2, imm)
 }
 
+// Whether an operation on an immediate can take this one.
 fn is_operand(op: ImmOp, imm: i32) -> bool
     ensures { IsTrue result ↔ IsOperand op imm }
 {
@@ -57,6 +65,7 @@ fn is_operand(op: ImmOp, imm: i32) -> bool
     }
 }
 
+// Whether an atomic can have this number in the place of rs2: LR has 0 there.
 fn is_second(op: AtomicOp, number: u32) -> bool
     ensures { IsTrue result ↔ IsSecond op number }
 {

@@ -28,7 +28,7 @@ pub struct Board {
     serial_control: u32,
 }
 
-// A flag as this bit.
+// This bit where the flag is set, else 0.
 fn bit(flag: bool, value: u8) -> u8
     ensures { result ≡ (if flag then value else 0) }
 {
@@ -217,6 +217,7 @@ impl Board {
         let serial = raises(self.schedule.waits(), self.serial_control);
         bit(self.timer.line(), 1) + bit(either(serial, self.disk.line()), 2)
     }
+
     // What a load gives of a register other than the serial data.
     fn value_of(&self, register: Register) -> u32
         ensures { (script : Outside) (step : ℕ) (words : List DmaWord) (state : BoardState)
@@ -263,7 +264,7 @@ impl Board {
         unmarked(self.value_of(register))
     }
 
-    // A store to the command of the disk.
+    // A store to the disk's command register.
     fn command(&mut self, command: u32, ram: &Ram)
         requires begun { 1 ≤ self.old.begun }
         requires ram { length ram.now ≤ MOST_RAM_BYTES }

@@ -10,9 +10,13 @@ use rv_memory::Ram;
 /// What the disk is at: a command completes before the step `before`.
 #[derive(Clone, Copy)]
 pub enum Activity {
+    /// No command was given, or the last one was acknowledged.
     Idle,
+    /// A command is being done.
     Busy { before: u64 },
+    /// A command was done.
     Done,
+    /// A command was refused.
     Refused,
 }
 
@@ -22,6 +26,7 @@ pub struct Disk {
     pub bytes: Vec<u8>,
     // the sectors whose words are marked
     pub sectors: Vec<Span>,
+    // what the registers of these names hold
     pub sector: u32,
     pub address: u32,
     pub control: u32,

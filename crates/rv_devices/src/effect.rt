@@ -3,6 +3,7 @@
 /// What a store to a device register does outside the board.
 #[derive(Clone, Copy, Debug, PartialEq, Eq)]
 pub enum Effect {
+    /// Nothing.
     Quiet,
     /// This byte goes out on the serial line.
     Byte { value: u8 },

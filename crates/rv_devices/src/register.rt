@@ -9,7 +9,7 @@ use memory_map::{
     MTIMECMP_HIGH, MTIMECMP_LOW, POWER, SERIAL_CTRL, SERIAL_DATA, SERIAL_STATUS,
 };
 
-/// A device register.
+/// A device register; `memory_map` says at its address what it is for.
 #[derive(Clone, Copy)]
 pub enum Register {
     CompareLow,

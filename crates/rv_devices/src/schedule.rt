@@ -16,6 +16,7 @@ pub struct Schedule {
     pub entries: Vec<Entry>,
     // how many are due
     pub place: usize,
+    // how many steps a command of the disk takes now
     pub latency: u32,
     // the entry that has the next serial byte, or the first one that is not due, and how many of its bytes were taken
     pub source: usize,

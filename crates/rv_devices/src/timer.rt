@@ -3,9 +3,10 @@
 ghost use Rattle.std.specs.Prelude.{◌≡◌, ℕ, ◌+◌, ◌-◌, ◌%◌, ◌^◌, ◌≤◌, min, nat_le};
 ghost use Rattle.rv_devices.specs.Times.{Times, passed, rises_kept, steady_until};
 
-/// The two counts, and when the first one rises next.
+/// The count of the timer, what it is compared with, and when it rises next.
 #[derive(Drop)]
 pub struct Timer {
+    // it rises each so many steps
     pub clock: u32,
     // the next step before which it rises by its clock
     pub rise: u64,

@@ -6,7 +6,7 @@ ghost use Rattle.rv_devices.specs.Sends.{Sends, unsent};
 
 use run_events::DmaWord;
 
-/// So many bytes are a sector.
+/// How many bytes a sector has.
 pub const SECTOR_BYTES: usize = 512;
 
 /// A sector's bytes, of which the first `sent` were handed out; the next word goes to `address`, with this mark.

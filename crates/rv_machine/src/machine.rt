@@ -34,7 +34,9 @@ use std::alloc::Global;
 pub struct Machine {
     cpu: Cpu,
     board: Board,
+    // how many steps may still begin
     left: u32,
+    // the interrupt lines that were told last
     lines: u8,
     phase: Phase,
     ghost begun: { steps_begun board ≡ cpu.step + inside phase },
@@ -338,7 +340,7 @@ fn store_access(board: &mut Board, access: &Access, ram: &Ram)
     }
 }
 
-// What a step's event does to them.
+// What a step's event does to the devices.
 #[inline(always)]
 fn store_outside(board: &mut Board, event: &Event, ram: &Ram)
     requires begun { 1 ≤ steps_begun board.old }

@@ -9,7 +9,7 @@ use crate::phase::Phase;
 use memory_map::{POWER, SERIAL_DATA};
 use run_events::{DmaWord, EndCause, Event, Item, Record};
 
-// Each so many steps the record tells that they are done.
+// After so many steps each, a record tells that they are done.
 const MARK_STEPS: u32 = 256;
 
 /// A record that lets no byte go.

@@ -1,6 +1,6 @@
 //! RAM, byte by byte.
 ghost use Rattle.memory_map.specs.declared.TheConstants.{LEAST_RAM_KIB, MOST_RAM_BYTES, MOST_RAM_KIB};
-ghost use Rattle.std.specs.Prelude.{◌≡◌, ◌⊎◌, ℕ, ◌+◌, ◌-◌, ◌*◌, ◌^◌, ◌<◌, ◌≤◌, List, length, take, drop, replicate, IfOk};
+ghost use Rattle.std.specs.Prelude.{◌≡◌, ℕ, ◌+◌, ◌-◌, ◌*◌, ◌<◌, ◌≤◌, List, length, take, drop, replicate, IfOk};
 ghost use Rattle.std.specs.Int.{w16, w32, from_le_bytes};
 ghost use Rattle.memory_map.specs.Ram.{InRam, IsWidth, in_ram};
 ghost use Rattle.rv_memory.specs.Ram.{loaded, stored, filled};

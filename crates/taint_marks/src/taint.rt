@@ -1,6 +1,6 @@
 //! The marks of registers, of mscratch and of RAM.
 ghost use Rattle.memory_map.specs.declared.TheConstants.{LEAST_RAM_KIB, MOST_RAM_KIB};
-ghost use Rattle.std.specs.Prelude.{◌≡◌, ℕ, ◌+◌, ◌*◌, ◌≤◌, ◌<◌, ◌^◌, true, not, min, List, [], ◌∷◌, ◌++◌, length, unwrap_or, IfOk, Option, None, Some};
+ghost use Rattle.std.specs.Prelude.{◌≡◌, ℕ, ◌+◌, ◌*◌, ◌≤◌, ◌<◌, true, List, [], ◌∷◌, ◌++◌, length, unwrap_or, IfOk, Option, None, Some};
 ghost use Rattle.std.specs.Option.{option_map, option_or};
 ghost use Rattle.run_events.specs.declared.event.Event.{Event};
 ghost use Rattle.run_events.specs.declared.finding.Kind.TheVariants as kind;
@@ -30,7 +30,7 @@ use std::marker::Model;
 // mscratch's address, the one CSR that has a mark. (Privileged manual, 2.2.)
 const MSCRATCH: u32 = 0x340;
 
-// Of a range that must be unmarked so many bytes are looked at.
+// How many bytes of a range that must be unmarked are looked at, from its start on.
 const MOST_CHECKED: u32 = 4096;
 
 // The opcodes of most instructions. (Unprivileged manual, chapter 24.)
@@ -51,7 +51,7 @@ pub struct Taint {
     ram_kib: u32,
     registers: [u8; 32],
     scratch: u8,
-    // how many of these have a mark, for the quick test
+    // how many of the registers and mscratch have a mark, for the quick test
     held: u32,
     shadow: Shadow,
     found: Tally,
@@ -59,7 +59,7 @@ pub struct Taint {
 
 impl SharedByThreads for Taint {}
 
-// So many marks are held, one for the old one of a place.
+// How many marks are held once the old mark of a place has become the new one, where `held` were before. 0 is no mark.
 #[inline(always)]
 fn held_with(held: u32, old: u8, new: u8) -> u32
     requires least { weight old ≤ held }
@@ -191,6 +191,7 @@ impl Taint {
         self.held == 0
     }
 
+    // Whether mscratch has no mark, nor has any register that the places of rd, rs1 and rs2 name.
     #[tactic(auto, using(crate::proofs::CalmLaws::AreUnmarked_joined))]
     fn has_clear_fields(&self, word: u32) -> bool
         ensures { result ≡ true → AreUnmarked self.now word }
@@ -221,7 +222,7 @@ impl Taint {
         self.shadow.has_four_clear(address, u8::MAX)
     }
 
-    // Nearly each instruction has nothing to find, and only moves marks.
+    // Takes in an event. Nearly each instruction has nothing to find, and only moves marks.
     #[inline(always)]
     fn take_in(&mut self, event: &Event)
         requires { Fits self.old.ram_kib event.now }
@@ -236,6 +237,7 @@ impl Taint {
         }
     }
 
+    // Takes in an event, whatever it is.
     #[cold]
     fn take_in_whole(&mut self, event: &Event)
         requires { Fits self.old.ram_kib event.now }
@@ -318,6 +320,7 @@ impl Taint {
         }
     }
 
+    // The least marked byte of RAM in `[from, to)`.
     fn first_marked(&self, from: u64, to: u64) -> Option<u32>
         ensures { result
             ≡ least_in_ram self.now.ram_kib (λ a. is_marked (mark_now self.now (Byte a))) from to }
@@ -354,6 +357,7 @@ impl Taint {
         }
     }
 
+    // Gives the marks of a word of this opcode.
     fn give_opcode<const OPCODE: u32>(&mut self, word: u32, access: &Access)
         requires { AccessFits self.old.ram_kib access.now }
         ensures { self.new ≡ with_given self.old
@@ -366,6 +370,7 @@ impl Taint {
         }
     }
 
+    // Gives the marks of a word of any opcode.
     #[inline(never)]
     fn give_word(&mut self, word: u32, access: &Access)
         requires { AccessFits self.old.ram_kib access.now }
@@ -375,6 +380,7 @@ impl Taint {
         self.give_decoded(decode(word), access)
     }
 
+    // Gives the marks of what a word spells; where that is none, nothing.
     #[inline(always)]
     fn give_decoded(&mut self, instr: Option<Instr>, access: &Access)
         requires { AccessFits self.old.ram_kib access.now }
@@ -387,6 +393,7 @@ impl Taint {
         }
     }
 
+    // Gives the marks of an instruction.
     #[tactic(auto, using(crate::proofs::MarkLaws::or_nothing, crate::proofs::MarkLaws::marked_by_stored))]
     #[inline(always)]
     fn give_by(&mut self, instr: Instr, access: &Access)
@@ -419,7 +426,7 @@ impl Taint {
         }
     }
 
-    // Of a load: the marks of the bytes of RAM, or that of a device's register.
+    // Gives the marks of a load: the register gets those of the bytes of RAM, or that of the device register.
     #[inline(always)]
     fn load(&mut self, rd: u32, access: &Access)
         requires { AccessFits self.old.ram_kib access.now }
@@ -442,7 +449,7 @@ impl Taint {
         }
     }
 
-    // Of a store to RAM.
+    // Gives the bytes of a store to RAM this mark. A device register keeps none.
     #[inline(always)]
     fn store(&mut self, access: &Access, mark: u8)
         requires { AccessFits self.old.ram_kib access.now }
@@ -460,7 +467,8 @@ impl Taint {
         }
     }
 
-    // Of an operation on two registers. The exclusive or of a register with itself, and the difference, are 0.
+    // The mark of what an operation makes of two registers. The exclusive or of a register with itself, and the difference,
+    // are 0 whatever it holds.
     #[tactic(auto, using(crate::proofs::MarkLaws::or_nothing))]
     #[inline(always)]
     fn combined(&self, op: RegOp, rs1: u32, rs2: u32) -> u8
@@ -472,14 +480,14 @@ impl Taint {
         }
     }
 
-    // Of an atomic operation.
+    // Gives the marks of an atomic.
     #[tactic(auto, using(crate::proofs::MarkLaws::or_nothing, crate::proofs::MarkLaws::marked_by_stored))]
     fn exchange(&mut self, op: AtomicOp, rd: u32, rs2: u32, access: &Access)
         requires { AccessFits self.old.ram_kib access.now }
         ensures { self.new ≡ with_given self.old
             (marked_by (mark_now self.old) (atomic_writes op rd rs2 access.now)) }
     {
-        let old = self.old(access);
+        let old = self.old_mark(access);
         match op {
             AtomicOp::Lr => self.load(rd, access),
             AtomicOp::Sc => self.swap(rd, 0, access, self.register(rs2)),
@@ -499,7 +507,7 @@ impl Taint {
     }
 
     // The mark of the bytes that an atomic operation reads.
-    fn old(&self, access: &Access) -> u8
+    fn old_mark(&self, access: &Access) -> u8
         requires { AccessFits self.now.ram_kib access.now }
         ensures { result ≡ union_of (mark_now self.now) (old_bytes access.now) }
     {
@@ -523,6 +531,7 @@ impl Taint {
         }
     }
 
+    // The marks of these bytes together.
     #[tactic(auto, using(crate::proofs::MarkLaws::bytes_more))]
     fn union_of(&self, address: u32, width: u32) -> u8
         requires { InRam (1024 * self.now.ram_kib) address width }
@@ -535,7 +544,7 @@ impl Taint {
         mark
     }
 
-    // Of an access to a CSR.
+    // Gives the marks of an access to a CSR.
     #[tactic(auto, using(crate::proofs::MarkLaws::or_nothing))]
     fn move_csr(&mut self, op: CsrOp, rd: u32, source: u32, csr: u32)
         ensures { self.new ≡ with_given self.old
@@ -549,6 +558,7 @@ impl Taint {
         self.put_scratch(scratch);
     }
 
+    // The mark that an access to mscratch gives it; none where it writes nothing.
     #[tactic(auto, using(crate::proofs::MarkLaws::or_nothing))]
     fn scratch_written(&self, op: CsrOp, source: u32) -> Option<u8>
         ensures { result ≡ option_map (mark_of (mark_now self.now)) (scratch_writes op source) }
@@ -562,6 +572,7 @@ impl Taint {
         }
     }
 
+    // Gives a register a mark; x0 never has one.
     #[inline(always)]
     fn put_register(&mut self, rd: u32, mark: u8)
         ensures { self.new ≡ record self.old {
@@ -576,6 +587,7 @@ impl Taint {
         }
     }
 
+    // Gives mscratch a mark, where there is one to give.
     fn put_scratch(&mut self, mark: Option<u8>)
         ensures { self.new ≡ record self.old { scratch = unwrap_or mark self.old.scratch } }
     {
@@ -585,7 +597,7 @@ impl Taint {
         }
     }
 
-    // Most bytes that get none had none.
+    // Gives at most four bytes of RAM a mark. Most bytes that get none had none.
     #[inline(always)]
     fn put_bytes(&mut self, address: u32, width: u32, mark: u8)
         requires { width ≤ 4 }
@@ -599,6 +611,7 @@ impl Taint {
         }
     }
 
+    // Gives so many bytes of RAM a mark.
     fn paint(&mut self, address: u32, width: u32, mark: u8)
         ensures { self.new ≡ record self.old {
           shade = shade_with self.old.shade address width

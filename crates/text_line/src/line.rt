@@ -1,5 +1,5 @@
 //! A line of text in an array.
-ghost use Rattle.std.specs.Prelude.{◌≡◌, ℕ, ◌+◌, ◌≤◌, ◌%◌, ◌^◌, false, List, [], ◌∷◌, ◌++◌, length, decimal};
+ghost use Rattle.std.specs.Prelude.{◌≡◌, ℕ, ◌+◌, ◌≤◌, ◌%◌, false, List, [], ◌++◌, length, decimal};
 ghost use Rattle.std.specs.Fmt.{digit_glyph};
 ghost use Rattle.analysis_model.specs.Report.{line, hexadecimal};
 
@@ -31,7 +31,7 @@ impl Line {
         }
     }
 
-    /// With a text more.
+    /// The line with a text added.
     pub fn text(mut self, text: &str) -> Line
         requires { length self + length text.now ≤ 128 }
         ensures text { result ≡ self ++ text.now }
@@ -41,7 +41,7 @@ impl Line {
         self
     }
 
-    /// With a decimal number more.
+    /// The line with a number added in decimal digits, at most 20.
     pub fn number(mut self, number: u64) -> Line
         requires { length self + 20 ≤ 128 }
         ensures text { result ≡ self ++ decimal number }
@@ -52,7 +52,7 @@ impl Line {
         self
     }
 
-    /// With eight hexadecimal digits more, in lower case.
+    /// The line with a number added as eight hexadecimal digits, in lower case.
     pub fn hexadecimal(mut self, number: u32) -> Line
         requires { length self + 8 ≤ 128 }
         ensures text { result ≡ self ++ hexadecimal number }
@@ -72,7 +72,7 @@ impl Line {
         self
     }
 
-    /// With its line feed.
+    /// The line with a line feed added.
     pub fn ended(mut self) -> Line
         requires { length self + 1 ≤ 128 }
         ensures { result ≡ line self }
@@ -81,14 +81,14 @@ impl Line {
         self
     }
 
-    /// Its bytes.
+    /// The bytes of the line so far.
     pub fn as_bytes(&self) -> &[u8]
         ensures { result.now ≡ self.now }
     {
         self.bytes.as_slice()
     }
 
-    // The callers see to the room, so that the bytes always fit.
+    // Adds bytes. The callers see to the room, so that they always fit.
     fn add(&mut self, bytes: &[u8])
         requires { length self.old + length bytes.now ≤ 128 }
         ensures { self.new ≡ self.old ++ bytes.now }

@@ -1,5 +1,6 @@
-//! The texts that the guests come to.
+//! The texts that the guests come to, each by the name of its guest.
 
+/// Under coverage.
 pub const HELLO: &str = "\
 H
 == aftersight report
@@ -37,6 +38,7 @@ cover outside at 1 pc 00000000 addr 00000000
 cover outside at 2 pc 00000000 addr 00000000
 ";
 
+/// Under locks, which are required.
 pub const UNGUARDED: &str = "\
 A
 == aftersight report
@@ -62,6 +64,7 @@ locks unguarded at 6 pc 80000018 addr 10000000
 locks unguarded at 7 pc 8000001c addr 10000000
 ";
 
+/// Under coverage.
 pub const TIMED: &str = "
 == aftersight report
 steps 13
@@ -100,6 +103,7 @@ cover pcs 8 ranges 1
 cover range 80000000 80000020
 ";
 
+/// Under coverage.
 pub const READING: &str = "\
 Q
 == aftersight report
@@ -112,6 +116,7 @@ cover pcs 13 ranges 1
 cover range 80000000 80000034
 ";
 
+/// Under marked input.
 pub const JUMPING: &str = "
 == aftersight report
 steps 10
@@ -122,6 +127,7 @@ taint findings 1 first 7
 taint jump at 7 pc 8000001c addr 80000024
 ";
 
+/// Under marked input.
 pub const JUMPING_CLEAN: &str = "
 == aftersight report
 steps 10
@@ -143,6 +149,7 @@ cover pcs 9 ranges 1
 cover range 80000000 80000024
 ";
 
+/// Under all analyses.
 pub const ECHO: &str = "\
 hi
 
