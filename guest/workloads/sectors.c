@@ -1,7 +1,7 @@
-/* Reads a thousand sectors of the disk, each awaited by its interrupt, and sums their words. */
+/* Reads a thousand sectors of the disk, five times over, each awaited by its interrupt, and sums their words. */
 #include "aftersight.h"
 
-enum { SECTORS = 1000, WORDS = SECTOR_BYTES / 4 };
+enum { SECTORS = 1000, READS = 5 * SECTORS, WORDS = SECTOR_BYTES / 4 };
 
 static uint32_t sector[WORDS];
 static volatile uint32_t done;
@@ -17,8 +17,8 @@ int main(void) {
     DISK_CTRL = 1;
     interrupts_take(EXTERNAL_INTERRUPT);
     interrupts_on();
-    for (uint32_t number = 0; number < SECTORS; number++) {
-        DISK_SECTOR = number;
+    for (uint32_t number = 0; number < READS; number++) {
+        DISK_SECTOR = number % SECTORS;
         DISK_ADDR = (uint32_t)sector;
         DISK_CMD = DISK_READ;
         while (done == number)
