@@ -1,9 +1,8 @@
 -- What an answer means, the call comes to.
-use Rattle.std.proofs.Common.{◌≡◌, inl, inr, ℕ, ◌<◌, List, Option, Result, Ok, Err, refl, ap, sym, subst, ◌∙◌, arith}
+use Rattle.std.proofs.Common.{◌≡◌, inl, inr, ℕ, List, Option, Result, Ok, Err, refl, ap, sym, subst}
 use Rattle.after_edge.specs.Files.{Contents}
 use Rattle.after_edge.specs.Sink.{Telling}
-use Rattle.command_words.specs.declared.fault.WordsFault.{WordsFault}
-use Rattle.command_words.specs.Jobs.{RunJob, Run}
+use Rattle.command_words.specs.Jobs.{RunJob}
 use Rattle.command_words.specs.Jobs as words
 use Rattle.refusals.specs.declared.refusal.Refusal.{Refusal}
 use Rattle.refusals.specs.declared.refusal.Refusal.TheVariants.{NoMemory}
@@ -12,15 +11,10 @@ use Rattle.run_inputs.specs.Given.{Given, inputs_in}
 use Rattle.after_cli.specs.declared.running.JobEnd.{JobEnd}
 use Rattle.after_cli.specs.declared.running.JobEnd.TheVariants.{Done, OutputFailed}
 use Rattle.after_cli.specs.declared.top.Outcome.{Outcome}
-use Rattle.after_cli.specs.Asked.{AskForNoRun, IsAsked, IsMore, IsRunOf, job_for, names_of}
+use Rattle.after_cli.specs.Asked.{IsAsked, IsRunOf, job_for, names_of}
 use Rattle.after_cli.specs.Ends.{Call, Ends}
 use Rattle.after_cli.specs.JobEnds.{IsDoneJob, JobEndsBy}
 use Rattle.after_cli.specs.Means.{Concludes, Means}
-
--- words that ask for a run ask for nothing else
-pub asked_alone : (ws : List (List ℕ)) (run : RunJob) → IsAsked ws run → AskForNoRun ws → ⊥
-asked_alone ws run asked (inl (fault, is)) = let e : ◌≡◌ {A = Result words.Job WordsFault} (Ok (Run run)) (Err fault) = sym asked.asked ∙ is in absurd (cc)
-asked_alone ws run asked (inr more) = let some : 0 < run.threads = subst IsMore asked.asked more in absurd (omega (arith, asked.plain, some))
 
 -- what stands of a run whose files were taken
 module _ {O : Type 0} (content : Option Contents) (ws : List (List ℕ)) (before now : ℕ) (out : Telling O) (old new : O) (run : RunJob) (given : Given) (asked : IsAsked ws run) (comes : Comes (inputs_in run.ram_kib) content (names_of run) (Ok given)) (still : now ≡ before) where

@@ -3,7 +3,6 @@ use Rattle.std.proofs.Common.{◌≡◌, ℕ, ◌+◌, ◌<◌, Bool, true, fals
 use Rattle.std.specs.Prelude.{slice_get}
 use Rattle.std.specs.List.{flat_map, list_any}
 use Rattle.std.proofs.lemmas.Grind.{flat_map-append}
-use Rattle.std.proofs.lemmas.List.{take_all}
 use Rattle.std.proofs.lemmas.List.Folds.{list_any-append}
 use Rattle.list_laws.specs.Prefix.{IsPrefix}
 use Rattle.list_laws.proofs.PlaceLaws.{there_within}
@@ -17,7 +16,7 @@ use Rattle.analysis_set.specs.declared.any_analysis.AnyAnalysis.{AnyAnalysis}
 use Rattle.analysis_set.specs.Analysis.{HasSeen, findings_made, kib_of, made_of, part_made}
 use Rattle.analysis_set.proofs.GuestLaws.{findings_made-of, part_made-of}
 use Rattle.guard_run.specs.declared.closing.Closing.{Closing}
-use Rattle.guard_run.specs.Closings.{IsAnalysisAt, IsWholeRun, replicas_of}
+use Rattle.guard_run.specs.Closings.{IsAnalysisAt, IsWholeRun}
 use Rattle.job_model.specs.Job.{Job, events, guest}
 use Rattle.after_cli.specs.JobEnds.{IsOver}
 
@@ -47,9 +46,6 @@ tells_of job closing number analysis whole within at =
 -- there are as many analyses as replicas
 pub same_count : (job : Job) (count : ℕ) (closing : Closing) → IsOver count closing → IsWholeRun job closing → count ≡ length job.kinds
 same_count job count closing over whole = omega (arith, over.all, over.whole.closes.replicas, whole.closes.replicas)
-
-pub has_replica : (count number : ℕ) (closing : Closing) → IsOver count closing → number < count → number < length (replicas_of closing)
-has_replica count number closing over below = omega (arith, over.all, over.whole.closes.replicas)
 
 -- one more part
 pub parts_next : (job : Job) (number : ℕ) (kind : Kind) → slice_get job.kinds number ≡ Some kind
@@ -86,10 +82,3 @@ any_found test kinds number kind there is =
     let here : list_any test front ≡ true = ap (list_any test) (take-next number kinds kind there) ∙ list_any-append test (take number kinds) (kind ∷ []) ∙ or_right (list_any test (take number kinds)) (list_any test (kind ∷ [])) (or_left (test kind) false is) in
     let whole = take_IsPrefix (number + 1) kinds in
     ap (list_any test) (sym whole.joined) ∙ list_any-append test front whole.rest ∙ or_left (list_any test front) (list_any test whole.rest) here
-
--- all parts are those of all analyses
-pub parts_all : (job : Job) (count : ℕ) → count ≡ length job.kinds → flat_map (part_text (guest job) (events job)) (take count job.kinds) ≡ flat_map (part_text (guest job) (events job)) job.kinds
-parts_all job count is = ap (flat_map (part_text (guest job) (events job))) (take_all count job.kinds (omega (arith, is)))
-
-pub any_all : (test : Kind → Bool) (kinds : List Kind) (count : ℕ) → count ≡ length kinds → list_any test (take count kinds) ≡ false → list_any test kinds ≡ false
-any_all test kinds count is none = ap (list_any test) (sym (take_all count kinds (omega (arith, is)))) ∙ none

@@ -1,10 +1,6 @@
 -- Counts of faults.
-use Rattle.std.proofs.Common.{◌≡◌, ℕ, ◌≤◌, arith}
-use Rattle.after_edge.specs.Fault.{Rose, raised}
-
--- a count that was raised rose
-pub Rose-raised : (before now : ℕ) → now ≡ raised before → Rose before now
-Rose-raised before now is = omega (arith, is)
+use Rattle.std.proofs.Common.{ℕ, ◌≤◌, arith}
+use Rattle.after_edge.specs.Fault.{Rose}
 
 -- it had not fallen, and then rose
 pub Rose-later : (before middle now : ℕ) → before ≤ middle → Rose middle now → Rose before now

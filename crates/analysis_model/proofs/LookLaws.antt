@@ -1,6 +1,6 @@
 -- What looks tell of a run and of more of it.
 use Rattle.std.proofs.Common.{◌≡◌, ℕ, List, [], ◌∷◌, ◌++◌, reverse, Option, Some, None, refl, sym, ap, ◌∙◌, append_assoc, append-nil}
-use Rattle.std.specs.List.{cons_option, AllByRecursion, filter_map}
+use Rattle.std.specs.List.{cons_option, AllByRecursion}
 use Rattle.std.specs.Option.{option_map}
 use Rattle.std.proofs.lemmas.List.{reverse-append}
 use Rattle.run_events.specs.declared.event.Event.{Event}
@@ -29,11 +29,6 @@ told_at-append look xs ys = told_after-append look [] xs ys ∙ ap (λ l. told_a
 -- one event more
 pub told_at-more : {A : Type 0} (look : List Event → Event → Option A) (h : List Event) (event : Event) → told_at look (h ++ event ∷ []) ≡ told_at look h ++ cons_option (look (reverse h) event) []
 told_at-more look h event = told_at-append look h (event ∷ [])
-
--- a look that needs nothing before the event
-pub told_after-alone : {A : Type 0} (look : Event → Option A) (before events : List Event) → told_after (λ before event. look event) before events ≡ filter_map look events
-told_after-alone look before [] = refl
-told_after-alone look before (event ∷ events) = ap (cons_option (look event)) (told_after-alone look (event ∷ before) events)
 
 -- this is true of the step of each event, and of each finding
 abbrev pub EachEvent : (ℕ → Type 0) → List Event → Type 0

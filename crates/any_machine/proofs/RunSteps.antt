@@ -12,7 +12,7 @@ use Rattle.run_events.specs.declared.supply.Supplied.{Supplied}
 use Rattle.any_machine.specs.Machine.{Machine, Board, Input, Turn, power_status, touched, after, turn_of}
 use Rattle.any_machine.specs.Run.{served_by, run_after, run_from}
 use Rattle.any_machine.specs.Log.{plain_item, word_record, lines_records, load_records, reach_items, turn_items, turns_items, items_from}
-use Rattle.any_machine.specs.Recorder.{end_item, still_to_come, after_step, at_step, with_load, at_lines, at_words}
+use Rattle.any_machine.specs.Recorder.{end_item, still_to_come, after_step, at_step, with_load, at_words}
 use Rattle.any_machine.proofs.BoardRun.{run_from-limit, run_from-step}
 
 -- the items of a step, kind by kind, before others
@@ -61,12 +61,3 @@ module _ {S B : Type 0} (m : Machine S) (board : Board S B) where
       let begun = board.due n b in
       let lines = board.lines n begun.1 in
       ap (items_from n held) (run_from-step m board left n s b) ∙ by_need left n held s begun.0 lines begun.1 (m.needs (touched m s begun.0) lines)
-
-  -- one word of them is handed out
-  pub to_come-word : (left n held : ℕ) (s : S) (b : B) (word : DmaWord) (words : List DmaWord)
-      → at_words m board left n held s b (word ∷ words) ≡ plain_item (word_record n word) ∷ at_words m board left n held (m.touch s word).1 b words
-  to_come-word left n held s b word words = refl
-
-  -- all of them are
-  pub to_come-words : (left n held : ℕ) (s : S) (b : B) → at_words m board left n held s b [] ≡ at_lines m board left n held s b
-  to_come-words left n held s b = refl

@@ -45,9 +45,6 @@ module _ {S : Type 0} (m : Machine S) (done : S → ℕ) (counts : CountsSteps m
       ∙ ap (λ k. record { state = (m.step s lines None).1; step = k; lines = lines; load = None; power = None }) (counts.stepped s lines None)
       ∙ ap (λ p. record { state = (m.step s lines None).1; step = suc (done s); lines = lines; load = None; power = p }) (sym runs ∙ ap (λ (x : Event × S). power_status x.0) (sym is))
 
-  pub unfed_counts : done s' ≡ suc (done s)
-  unfed_counts = ap (λ (x : Event × S). done x.1) (sym is) ∙ counts.stepped s lines None
-
   pub loop_fast : (number : ℕ) (first : Held S) (Seen SeenNow SeenNext : List Event → Type 0) → RunSoFar m number first (unfed done lines s) Seen SeenNow → done s < number → m.needs s lines ≡ Nothing → power_status event ≡ None
       → ((h : List Event) → SeenNow h → SeenNext (h ++ event ∷ [])) → RunSoFar m number first (unfed done lines s') Seen SeenNext
   loop_fast number first Seen SeenNow SeenNext so_far lt nothing runs sees =

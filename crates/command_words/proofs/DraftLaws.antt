@@ -1,16 +1,15 @@
 -- The value of an option, once it is kept.
-use Rattle.std.proofs.Common.{◌≡◌, ℕ, ◌+◌, ◌<◌, ◌≤◌, ◌==◌, if◌then◌else◌, cond, List, length, set, get_or, Option, Some, None, is_some, option_map, inl, inr, refl, sym, arith}
+use Rattle.std.proofs.Common.{◌≡◌, ℕ, ◌+◌, ◌<◌, ◌==◌, if◌then◌else◌, cond, List, length, set, get_or, Option, Some, None, is_some, option_map, inl, inr, refl, sym, arith}
 use Rattle.std.specs.List.{count_by}
 use Rattle.std.proofs.lemmas.Bool.{cases_eq, eq-eqb, ne_eqb}
 use Rattle.std.proofs.lemmas.List.{get_or-set_other}
-use Rattle.std.proofs.lemmas.List.Sums.{sum_by-set, count_by-le-length}
+use Rattle.std.proofs.lemmas.List.Sums.{sum_by-set}
 use Rattle.std.proofs.lemmas.Grind.{get_or-set_at}
-use Rattle.command_words.specs.declared.draft.Draft.{Draft}
 use Rattle.command_words.specs.declared.draft.Given.{Given}
 use Rattle.command_words.specs.declared.table.Setting.{Setting}
 use Rattle.command_words.specs.declared.table.Setting.TheVariants.{Disk, Mode, With, Require, Ram, Steps, Log, Threads, Turns}
 use Rattle.command_words.specs.Table.{place}
-use Rattle.command_words.specs.Drafts.{seen, spent}
+use Rattle.command_words.specs.Drafts.{seen}
 
 pub place_below : (setting : Setting) → place setting < 9
 place_below Disk = omega arith
@@ -43,7 +42,3 @@ put_count values setting given whole none =
     let below : place setting < length values = let h = place_below setting in omega arith in
     let before : one_of (get_or values (place setting) None) ≡ 0 = rw (none_held (get_or values (place setting) None) none) refl in
     omega (arith, before, sum_by-set one_of values (place setting) (Some given) None below)
-
--- few words are kept
-pub spent_few : (draft : Draft) → length draft.values ≡ 9 → draft.plain_count ≤ 3 → spent draft ≤ 21
-spent_few draft whole within = omega (arith, count_by-le-length is_some draft.values)

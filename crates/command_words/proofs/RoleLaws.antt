@@ -205,9 +205,6 @@ holds_option words old new n m name value setting holds known none plain values 
       closed = ends_open-append false words others;
     }
 
-pub holds_none : (new : Draft) → ((setting : Setting) → held new setting ≡ None) → plain_held new ≡ [] → Holds [] new
-holds_none new values plain = record { values = values; stood = λ s. ap is_some (values s); plain = plain; closed = refl }
-
 -- ---- the next word
 
 -- a word of the command line, as bytes
@@ -300,18 +297,6 @@ pub record HasRead (command : CommandName) (words : List (List ℕ)) (i : ℕ) (
   pub same : roles 2 None words ≡ before ++ roles (i + 2) None (drop i words)
   pub good : (later : List Role) → first_bad command [] (before ++ later) ≡ first_bad command before later
   pub holds : Holds before draft
-
-pub has_read_none : (command : CommandName) (words : List (List ℕ)) (draft : Draft) → ((setting : Setting) → held draft setting ≡ None) → plain_held draft ≡ [] → HasRead command words 0 draft
-has_read_none command words draft values plain = record { before = []; same = refl; good = λ later. refl; holds = holds_none draft values plain }
-
-pub has_read_more : (command : CommandName) (words : List (List ℕ)) (i j : ℕ) (old new : Draft) (read : HasRead command words i old) → ReadsOn command words read.before i j new → HasRead command words j new
-has_read_more command words i j old new read next =
-    record {
-      before = read.before ++ next.part;
-      same = read.same ∙ ap (λ (t : List Role). read.before ++ t) next.same ∙ sym (append_assoc read.before next.part (roles (j + 2) None (drop j words)));
-      good = λ later. ap (first_bad command []) (append_assoc read.before next.part later) ∙ read.good (next.part ++ later) ∙ next.good later;
-      holds = next.holds;
-    }
 
 pub refused_more : (command : CommandName) (words : List (List ℕ)) (i : ℕ) (old : Draft) (fault : WordsFault) (read : HasRead command words i old) → Refuses command read.before (roles (i + 2) None (drop i words)) fault → Refuses command [] (roles 2 None words) fault
 refused_more command words i old (Word n) read refused = ap (first_bad command []) read.same ∙ read.good (roles (i + 2) None (drop i words)) ∙ refused

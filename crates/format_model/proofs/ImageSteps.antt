@@ -4,10 +4,6 @@ use Rattle.std.proofs.lemmas.List.{drop_more, drop_all, take_more}
 use Rattle.format_model.specs.Then.{◌>>=◌}
 use Rattle.format_model.specs.ImageFile.{Fault, Overlap, Load, load_at, with_front, loads_at, first_shared, overlap_after}
 
-pub with_none : (read : Result (List Load) Fault) → with_front [] read ≡ read
-with_none (Ok loads) = refl
-with_none (Err e) = refl
-
 grouped : (front here new : List Load) (rest : Result (List Load) Fault) → front ++ here ≡ new → with_front front (with_front here rest) ≡ with_front new rest
 grouped front here new (Ok more) is = ap (λ (x : List Load). Ok x) (sym (append_assoc front here more) ∙ ap (λ (x : List Load). x ++ more) is)
 grouped front here new (Err e) is = refl

@@ -96,10 +96,6 @@ value_after-le n (digit ∷ digits) = omega (arith, value_after-le (10 * n + (di
 abbrev pub with_front : List ℕ → Result (List ℕ) Broken → Result (List ℕ) Broken
 with_front front read = read >>= λ bytes. Ok (front ++ bytes)
 
-pub with_none : (read : Result (List ℕ) Broken) → with_front [] read ≡ read
-with_none (Ok bytes) = refl
-with_none (Err e) = refl
-
 regroup : (front : List ℕ) (b : ℕ) (read : Result (List ℕ) Broken) → with_front (front ++ b ∷ []) read ≡ with_front front (read >>= λ bytes. Ok (b ∷ bytes))
 regroup front b (Ok bytes) = ap Ok (append_assoc front (b ∷ []) bytes)
 regroup front b (Err e) = refl

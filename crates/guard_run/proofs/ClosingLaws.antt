@@ -12,7 +12,6 @@ use Rattle.run_events.specs.declared.item.Item.{Item}
 use Rattle.run_events.specs.declared.record.Record.{Record}
 use Rattle.run_events.specs.declared.record.Record.TheVariants.{End}
 use Rattle.any_machine.specs.Log.{items, log, turns_log, SentByte}
-use Rattle.any_machine.proofs.Determinism.{shown_whole}
 use Rattle.any_machine.proofs.ShownBySteps.{shown_by_steps}
 use Rattle.hart_model.specs.Machine.{hart}
 use Rattle.hart_model.specs.State.{State}
@@ -20,7 +19,7 @@ use Rattle.hart_model.proofs.CountLaws.{hart_counts}
 use Rattle.analysis_model.specs.declared.facts.RunFacts.{RunFacts}
 use Rattle.job_model.specs.Job.{Job, events, finished, first_refused, guest, released}
 use Rattle.job_model.specs.Text.{facts}
-use Rattle.job_model.proofs.RunLaws.{first_state, job_items, job_output, job_runs}
+use Rattle.job_model.proofs.RunLaws.{first_state, job_items, job_output, job_runs, job_shown}
 use Rattle.turn_run.specs.Closings as turns
 use Rattle.turn_run.specs.Endings.{end_in, end_back}
 use Rattle.guard_run.specs.declared.closing.Closing.{Closing}
@@ -82,7 +81,7 @@ module _ (job : Job) (places : List ℕ) (closing : Closing) (are : AreReplicas 
       let marked = are.runnable.marked in
       let told : RunFacts = facts job in
       let fill : ℕ → ℕ → ℕ → RunFacts = λ issued out count. record { steps = run.steps; end = run.cause; issued = issued; released = out; items = count } in
-      let closed = closes (items run) (log run) (events job) (job_items job) (shown_whole hart (first_state job) run (job_runs job marked)) whole.closes in
+      let closed = closes (items run) (log run) (events job) (job_items job) (job_shown job marked) whole.closes in
       let ends : turns.ending_of closing.over ≡ Some (record { steps = run.steps; cause = run.cause }) = closed.ending ∙ ap end_back (reverse-last (turns_log 0 0 run.turns) (End run.steps run.cause)) in
       let issued : turns.issued_of closing.over ≡ told.issued = whole.closes.issued ∙ ap length (job_output job marked) in
       let out : turns.released_of closing.over ≡ told.released = whole.released ∙ ap length (course_released job places marked are.required) ∙ length-map (released job) (λ (byte : SentByte). byte.byte) in

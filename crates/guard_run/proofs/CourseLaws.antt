@@ -11,14 +11,14 @@ use Rattle.list_laws.proofs.PrefixLaws.{take_IsPrefix}
 use Rattle.run_events.specs.declared.finding.Kind.{Kind}
 use Rattle.run_events.specs.Record.{IsRecord, is_ordered, reach}
 use Rattle.any_machine.specs.Log.{before_step, bytes_of, items, log, steps_of, bytes_in}
-use Rattle.any_machine.proofs.Determinism.{prefix_executed, reach_log}
+use Rattle.any_machine.proofs.Determinism.{reach_log}
 use Rattle.gate_core.specs.Core.{reached}
 use Rattle.gate_core.specs.Hub.{is_cap}
 use Rattle.hart_model.specs.Machine.{hart}
 use Rattle.output_gate.specs.Gate.{Climbs}
 use Rattle.machine_model.specs.Board.{AreMarked}
 use Rattle.job_model.specs.Job.{Job, events, finished, first_refused, guest, least_refused, released_bytes, stop}
-use Rattle.job_model.proofs.RunLaws.{first_state, job_items, job_ordered, job_output, job_records, job_runs, job_within}
+use Rattle.job_model.proofs.RunLaws.{first_state, job_items, job_ordered, job_output, job_records, job_replayed, job_runs, job_within}
 use Rattle.job_model.proofs.VerdictLaws.{Foretells, foretells}
 use Rattle.turn_run.specs.Course as course
 use Rattle.turn_run.specs.Course.{Agrees, IsCourse, IsMarked, end_of, least_limit, log_of, plan_of, stop_of}
@@ -129,4 +129,4 @@ module _ (job : Job) (places : List ℕ) where
         let is : IsPrefix prefix (log (finished job)) = take_IsPrefix count (log (finished job)) in
         let comes : reached (plan_of (course_of job places)) count ≡ reach prefix = ap (λ l. reach (take count l)) course_log in
         subst (λ l. Agrees (course_of job places) reader count (verdict_on job.image job.ram_kib kind (take count l))) (sym course_log)
-        (agrees_by _ _ _ count (foretells job marked prefix is kind) limit (comes ∙ sym (prefix_executed hart (first_state job) (finished job) prefix (job_runs job marked) is)))
+        (agrees_by _ _ _ count (foretells job marked prefix is kind) limit (comes ∙ sym (job_replayed job marked prefix is).executes))

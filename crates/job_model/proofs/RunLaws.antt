@@ -1,12 +1,17 @@
 -- The run of a job is a run of the hart beside its board, so all holds of it that is said of such runs.
 use Rattle.memory_map.specs.declared.TheConstants.{MOST_STEPS}
-use Rattle.std.proofs.Common.{◌≡◌, ◌≤◌, true, map, refl, arith}
+use Rattle.std.proofs.Common.{◌≡◌, ◌≤◌, List, true, map, refl, arith}
 use Rattle.std.specs.List.{AllByRecursion}
+use Rattle.list_laws.specs.Prefix.{IsPrefix}
 use Rattle.run_events.specs.declared.item.Item.{Item}
+use Rattle.run_events.specs.declared.record.Record.{Record}
 use Rattle.run_events.specs.Record.{IsRecord, is_ordered}
+use Rattle.any_machine.specs.Law.{IsReplayed}
 use Rattle.any_machine.specs.Run.{Runs}
 use Rattle.any_machine.specs.Log.{bytes_of, items, log, output}
+use Rattle.any_machine.specs.Replay.{shown}
 use Rattle.any_machine.proofs.BoardRun.{run_from-Runs, steps_within}
+use Rattle.any_machine.proofs.Determinism.{prefix_executed, prefix_fits, shown_first, shown_whole}
 use Rattle.any_machine.proofs.ItemLaws.{items-log, items-output}
 use Rattle.any_machine.proofs.LogLaws.{log_ordered, log_records}
 use Rattle.any_machine.proofs.NumberLaws.{TurnsStand, run_stands}
@@ -52,3 +57,15 @@ module _ (job : Job) (marked : AreMarked job.script.entries) where
 
   pub job_records : job.limit ≤ MOST_STEPS → AllByRecursion IsRecord (log (finished job))
   job_records few = log_records hart (first_state job) (finished job) job_runs (omega (arith, job_within job, few))
+
+  -- Determinism of the guest: each prefix of its log fits the hart, executes its reach, and shows the run's first events.
+  pub job_replayed : (prefix : List Record) → IsPrefix prefix (log (finished job)) → IsReplayed hart (first_state job) (finished job) prefix
+  job_replayed prefix is = record {
+    fits = prefix_fits hart (first_state job) (finished job) prefix job_runs is;
+    executes = prefix_executed hart (first_state job) (finished job) prefix job_runs is;
+    shows = shown_first hart (first_state job) (finished job) prefix job_runs is;
+  }
+
+  -- The whole log shows all events.
+  pub job_shown : shown hart (first_state job) (log (finished job)) ≡ events job
+  job_shown = shown_whole hart (first_state job) (finished job) job_runs

@@ -7,7 +7,7 @@ use Rattle.run_events.specs.declared.finding.Kind.{Kind}
 use Rattle.run_events.specs.declared.record.Record.{Record}
 use Rattle.any_machine.specs.Log.{log}
 use Rattle.any_machine.specs.Replay.{executed, shown}
-use Rattle.any_machine.proofs.Determinism.{prefix_executed, prefix_within, shown_whole}
+use Rattle.any_machine.proofs.Determinism.{prefix_within}
 use Rattle.hart_model.specs.Machine.{hart}
 use Rattle.hart_model.specs.State.{State}
 use Rattle.hart_model.proofs.CountLaws.{hart_counts}
@@ -18,7 +18,7 @@ use Rattle.analysis_model.proofs.FindingLaws.{findings-extend, findings-stand, f
 use Rattle.analysis_model.proofs.LookLaws.{EachEvent}
 use Rattle.job_model.specs.Job.{Job, events, finished, first_refused, guest}
 use Rattle.job_model.proofs.LaterShown.{ShowsOn, shown_within, shows_on}
-use Rattle.job_model.proofs.RunLaws.{first_state, job_runs}
+use Rattle.job_model.proofs.RunLaws.{first_state, job_replayed, job_runs, job_shown}
 
 -- What a prefix that comes so far tells of a limit: a first finding stands at it, and no further than it comes; where there
 -- is none, the limit is no nearer.
@@ -40,14 +40,14 @@ module _ (job : Job) (marked : AreMarked job.script.entries) (prefix : List Reco
   run_on = shows_on hart (λ (s : State). s.step) hart_counts (first_state job) refl is.rest prefix
 
   joined : events job ≡ shown hart (first_state job) prefix ++ run_on.later
-  joined = sym (shown_whole hart (first_state job) (finished job) (job_runs job marked)) ∙ ap (shown hart (first_state job)) (sym is.joined) ∙ run_on.joined
+  joined = sym (job_shown job marked) ∙ ap (shown hart (first_state job)) (sym is.joined) ∙ run_on.joined
 
   later : EachEvent (λ step. executed hart (first_state job) prefix ≤ step) run_on.later
   later = all_through (λ event there. there.0) run_on.later run_on.stand
 
   -- it executes no more steps than the run has
   pub executed_within : executed hart (first_state job) prefix ≤ (finished job).steps
-  executed_within = omega (arith, prefix_executed hart (first_state job) (finished job) prefix (job_runs job marked) is, prefix_within hart (first_state job) (finished job) prefix (job_runs job marked) is)
+  executed_within = omega (arith, (job_replayed job marked prefix is).executes, prefix_within hart (first_state job) (finished job) prefix (job_runs job marked) is)
 
   pub foretells : (kind : Kind) → Foretells (first_step (findings kind (guest job) (shown hart (first_state job) prefix))) (executed hart (first_state job) prefix) (first_refused (guest job) (events job) (finished job).steps kind)
   foretells kind =

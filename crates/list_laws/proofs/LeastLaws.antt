@@ -56,22 +56,6 @@ least_made f g p q from (suc count) same made =
     by_case true rest = ap Some (EachFrom-first (λ n. f n ≡ g n) from count made)
     by_case false rest = rest
 
--- a search that goes on from the next number
-pub least_past : (p : ℕ → Bool) (from count : ℕ) → p from ≡ false → least_from p from (count + 1) ≡ least_from p (from + 1) count
-unfolding least_from
-least_past p from count none = rw (add_one count, none) refl
-  where
-    add_one : (n : ℕ) → n + 1 ≡ suc n
-    add_one n = omega arith
-
--- and one that ends
-pub least_here : (p : ℕ → Bool) (from count : ℕ) → p from ≡ true → least_from p from (count + 1) ≡ Some from
-unfolding least_from
-least_here p from count here = rw (add_one count, here) refl
-  where
-    add_one : (n : ℕ) → n + 1 ≡ suc n
-    add_one n = omega arith
-
 -- the range has exactly the numbers from its start on that are below its end
 pub is_between-yes : (from to n : ℕ) → from ≤ n → n < to → is_between from to n ≡ true
 is_between-yes from to n low high = grind (arith, nat_tests)

@@ -1,5 +1,5 @@
 -- The record `InRam` and the test `in_ram` say the same.
-use Rattle.std.proofs.Common.{◌≡◌, ℕ, true, false, IsTrue, arith}
+use Rattle.std.proofs.Common.{◌≡◌, ℕ, true, arith}
 use Rattle.memory_map.specs.Ram.{InRam, in_ram}
 
 -- the test is true where the range is in RAM
@@ -9,14 +9,3 @@ InRam-in_ram size address width held = grind (arith, held.from, held.to)
 -- the range is in RAM where the test is true
 pub in_ram-InRam : (size address width : ℕ) → in_ram size address width ≡ true → InRam size address width
 in_ram-InRam size address width holds = record { from = grind (arith, holds); to = grind (arith, holds) }
-
--- the same, with the truth as a fact
-pub in_ram-true : (size address width : ℕ) → IsTrue (in_ram size address width) → InRam size address width
-in_ram-true size address width holds = record { from = grind (arith, holds); to = grind (arith, holds) }
-
-pub true-in_ram : (size address width : ℕ) → InRam size address width → IsTrue (in_ram size address width)
-true-in_ram size address width held = grind (arith, held.from, held.to)
-
--- where the test is false, the range is not in RAM
-pub in_ram-false : (size address width : ℕ) → in_ram size address width ≡ false → InRam size address width → ⊥
-in_ram-false size address width refused held = grind (arith, refused, held.from, held.to)

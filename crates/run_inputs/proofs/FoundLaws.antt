@@ -1,9 +1,9 @@
 -- What stands under a name, as far as the files tell.
 use Rattle.std.proofs.Common.{◌≡◌, ℕ, ◌+◌, List, [], Option, Some, None, refl, sym, ap, arith, ◌∙◌}
-use Rattle.std.specs.Prelude.{IsSome, replicate}
+use Rattle.std.specs.Prelude.{replicate}
 use Rattle.std.proofs.lemmas.List.{length-replicate}
 use Rattle.std.proofs.lemmas.Option.{none-some, same_Some}
-use Rattle.after_edge.specs.Files.{Contents, IfTold, IsAbsent}
+use Rattle.after_edge.specs.Files.{Contents, IfTold}
 use Rattle.after_edge.specs.Reading.{IsLonger}
 use Rattle.run_inputs.specs.Files.{IsFound, IsDiskFound}
 use Rattle.run_inputs.specs.Read.{IsLong}
@@ -20,11 +20,6 @@ some_found (Some told) name = (told name, told_at told name (told name) refl)
 pub some_disk : (content : Option Contents) (name : Option (List ℕ)) → (found : Option (List ℕ)) × IsDiskFound content name found
 some_disk content None = (Some [], refl)
 some_disk content (Some name) = some_found content name
-
--- an absent file
-pub absent_found : (content : Option Contents) (name : List ℕ) → IsAbsent content name → IsSome content × IsFound content name None
-absent_found None name absent = absurd (none-some absent.files absent.told)
-absent_found (Some told) name absent = (refl, told_at told name None (ap (λ (f : Contents). f name) (same_Some told absent.files absent.told) ∙ absent.none))
 
 -- a file with too many bytes
 pub long_found : (content : Option Contents) (name : List ℕ) (max : ℕ) → IfTold content (λ files. IsLonger files name max) → IsLong content name max

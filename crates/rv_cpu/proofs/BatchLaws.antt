@@ -276,11 +276,6 @@ module _ (lines : ℕ) (start s t : State) (done : ℕ) (ran : Ran lines start s
       more : (n : ℕ) → suc n ≡ n + 1
       more n = omega arith
 
-  pub ran_stays : going None t ≡ goes_fetched s (fetched s.ram s.pc) → Ran lines start t done
-  ran_stays is =
-      let one = stayed s t (counted_times done s.csrs) (s.step + done) lines (fetched s.ram s.pc) is in
-      subst (λ (u : State). Ran lines start u done) (sym one.same) ran
-
   pub stays_plain : going None t ≡ goes_fetched s (fetched s.ram s.pc) → is_plain (caught_up done t) lines ≡ false
   stays_plain is =
       let one = stayed s t (counted_times done s.csrs) (s.step + done) lines (fetched s.ram s.pc) is in

@@ -34,12 +34,6 @@ AreDue-none zero entries due = refl
 AreDue-none (suc place) [] due = absurd due
 AreDue-none (suc place) (entry ∷ entries) due = absurd (omega (arith, due.0))
 
--- the entries that are due are entries
-pub AreDue-length : (begun place : ℕ) (entries : List Entry) → AreDue begun place entries → place ≤ length entries
-AreDue-length begun zero entries due = omega arith
-AreDue-length begun (suc place) [] due = absurd due
-AreDue-length begun (suc place) (entry ∷ entries) due = omega (arith, AreDue-length begun place entries due.1)
-
 -- what comes later comes no earlier
 pub AreLater-less : (low high : ℕ) (entries : List Entry) → low ≤ high → AreLater high entries → AreLater low entries
 AreLater-less low high [] less later = tt

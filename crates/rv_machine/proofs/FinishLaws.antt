@@ -8,7 +8,7 @@ use Rattle.run_events.specs.declared.record.Record.TheVariants.{Reach}
 use Rattle.run_events.specs.declared.supply.DmaWord.{DmaWord}
 use Rattle.run_events.specs.declared.supply.Supplied.{Supplied}
 use Rattle.any_machine.specs.Log.{reach_items}
-use Rattle.any_machine.specs.Machine.{is_load, power_status, serial_byte}
+use Rattle.any_machine.specs.Machine.{power_status, serial_byte}
 use Rattle.board_model.specs.TheBoard.{after_event}
 use Rattle.board_model.proofs.SoundBoard.{way_event}
 use Rattle.hart_model.proofs.CountLaws.{cpu_counts}
@@ -36,18 +36,6 @@ pub record IsOutside (phase : Phase) : Type 0 where
 pub after_outside : (o : Option ℕ) → IsOutside (phase_after o)
 after_outside None = record { outside = refl; quiet = refl; ready = λ loads. refl; going = refl; few = λ left due. omega arith }
 after_outside (Some status) = record { outside = refl; quiet = refl; ready = λ loads. refl; going = refl; few = λ left due. omega arith }
-
--- a step that is given what it needs was given it in its phase
-pub supplies_given : (phase : Phase) (supplied : Option Supplied) (s : State) (lines : ℕ) → Supplies phase supplied (needs s lines) → awaits phase (is_load (needs s lines)) ≡ true → is_load (needs s lines) ≡ is_some supplied
-supplies_given Need None s lines is given = ap is_load is
-supplies_given (Given value) (Some supplied) s lines is given = given
-supplies_given Between supplied s lines is given = elim is [ ]
-supplies_given Words supplied s lines is given = elim is [ ]
-supplies_given Lines supplied s lines is given = elim is [ ]
-supplies_given Need (Some supplied) s lines is given = elim is [ ]
-supplies_given (Given value) None s lines is given = elim is [ ]
-supplies_given (Ending cause) supplied s lines is given = elim is [ ]
-supplies_given Over supplied s lines is given = elim is [ ]
 
 -- and its items were counted
 items_inside : (phase : Phase) (left due : ℕ) → inside phase ≡ 1 → sends phase ≡ 0 → 133 * left + 2 ≤ items_at_most phase left due

@@ -1,5 +1,5 @@
 -- What a store to a device register is to the board.
-use Rattle.std.proofs.Common.{◌≡◌, ℕ, Bool, true, false, List, ap, subst, ◌∙◌}
+use Rattle.std.proofs.Common.{◌≡◌, ℕ, Bool, true, List, ap, subst, ◌∙◌}
 use Rattle.std.specs.Prelude.{IsSome}
 use Rattle.run_events.specs.declared.access.Access.{Access}
 use Rattle.run_events.specs.declared.access.Access.TheVariants.{Store}
@@ -18,6 +18,3 @@ module _ (a : Access) (address width value : ℕ) (device : Bool) (is : a ≡ St
   -- it does what the board says, and a store to RAM does nothing
   pub store_after : (script : Script) (step : ℕ) (ram : List ℕ) (b : BoardState) → device ≡ true → after_access script step ram b a ≡ model.after_store script step ram b address value
   store_after script step ram b outside = ap (after_access script step ram b) (is ∙ ap (Store address width value) outside)
-
-  pub store_to_ram : (script : Script) (step : ℕ) (ram : List ℕ) (b : BoardState) → device ≡ false → after_access script step ram b a ≡ b
-  store_to_ram script step ram b inside = ap (after_access script step ram b) (is ∙ ap (Store address width value) inside)

@@ -9,7 +9,7 @@ use Rattle.std.specs.List.{All}
 use Rattle.std.specs.Int.{w32, to_le_bytes}
 use Rattle.memory_map.specs.declared.TheConstants.{RAM_START}
 use Rattle.memory_map.specs.Ram.{InRam, IsWidth}
-use Rattle.rv_memory.specs.Ram.{placed, loaded, stored, filled}
+use Rattle.rv_memory.specs.Ram.{placed, loaded, stored}
 
 -- a piece that is placed inside keeps the length
 pub length-placed : (bytes : List ℕ) (at : ℕ) (piece : List ℕ) → at + length piece ≤ length bytes → length (placed bytes at piece) ≡ length bytes
@@ -40,10 +40,6 @@ pub length-stored : (ram : List ℕ) (address width value : ℕ) → IsWidth wid
 length-stored ram address width value w held =
     let low = length-low width value w in
     length-placed ram (address - RAM_START) (take width (to_le_bytes w32 value)) (omega (arith, held.from, held.to, low))
-
--- writing bytes keeps the length
-pub length-filled : (ram : List ℕ) (address : ℕ) (piece : List ℕ) → InRam (length ram) address (length piece) → length (filled ram address piece) ≡ length ram
-length-filled ram address piece held = length-placed ram (address - RAM_START) piece (omega (arith, held.from, held.to))
 
 -- the bytes outside a store's range stay
 pub stored-outside : (ram : List ℕ) (address width value : ℕ) (i d : ℕ) → IsWidth width → InRam (length ram) address width → (RAM_START + i < address) ⊎ (address + width ≤ RAM_START + i) → get_or (stored ram address width value) i d ≡ get_or ram i d

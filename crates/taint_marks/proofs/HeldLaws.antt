@@ -1,18 +1,13 @@
 -- The number of marks that a hart holds, as one is written over another.
-use Rattle.std.proofs.Common.{◌≡◌, ℕ, ◌+◌, ◌<◌, ◌≤◌, Bool, true, false, cond, List, length, get_or, set, arith, inl, inr}
+use Rattle.std.proofs.Common.{◌≡◌, ℕ, ◌+◌, ◌<◌, ◌≤◌, List, length, get_or, set, arith, inl, inr}
 use Rattle.std.proofs.lemmas.Bool.{cases_lt}
 use Rattle.std.proofs.lemmas.Bool.Decides.{nat_tests}
 use Rattle.std.proofs.lemmas.List.{get_or_past}
-use Rattle.std.proofs.lemmas.List.Sums.{count_by-le-length, get_or-le-sum_by, sum_by-set}
-use Rattle.analysis_model.specs.Taint.{is_marked}
+use Rattle.std.proofs.lemmas.List.Sums.{get_or-le-sum_by, sum_by-set}
 use Rattle.taint_marks.specs.Held.{weight, marks_held}
 
 weight_none : (mark : ℕ) → weight mark ≡ 0 → mark ≡ 0
 weight_none mark none = grind (arith, nat_tests, none)
-
-weight_few : (b : Bool) → cond b 1 0 ≤ 1
-weight_few true = omega arith
-weight_few false = omega arith
 
 module _ (registers : List ℕ) (scratch : ℕ) where
   -- where it is 0 no register has a mark, nor has mscratch
@@ -25,12 +20,6 @@ module _ (registers : List ℕ) (scratch : ℕ) where
 
   pub none_held_aside : marks_held registers scratch ≡ 0 → scratch ≡ 0
   none_held_aside none = weight_none scratch (omega (arith, none))
-
-  pub held_few : marks_held registers scratch ≤ length registers + 1
-  held_few = omega (arith, count_by-le-length is_marked registers, weight_few (is_marked scratch))
-
-  pub held_aside : weight scratch ≤ marks_held registers scratch
-  held_aside = omega arith
 
   module _ (n : ℕ) (there : n < length registers) where
     pub held_at : weight (get_or registers n 0) ≤ marks_held registers scratch

@@ -11,7 +11,7 @@ use Rattle.list_laws.specs.Least.{is_between, least_from}
 use Rattle.run_events.specs.declared.access.Access.{Access}
 use Rattle.run_events.specs.declared.access.Access.TheVariants as access
 use Rattle.analysis_model.specs.InRam.{least_in_ram}
-use Rattle.analysis_model.specs.Taint.{Place, Register, Scratch, Byte, IsPlace, Sources, register, is_general, is_marked, bytes_from, union_of, mark_of, mark_or, sources_in, writes_bytes}
+use Rattle.analysis_model.specs.Taint.{Place, Register, Scratch, Byte, IsPlace, Sources, is_general, is_marked, bytes_from, union_of, mark_of, mark_or, sources_in, writes_bytes}
 use Rattle.analysis_model.specs.Taint as model
 use Rattle.finding_tally.specs.Tallied.{Tallied}
 use Rattle.shadow_state.specs.Shade.{Shade, shade, has_byte, IsLeast, NoneBetween}
@@ -36,10 +36,6 @@ marked_by_stored marks (access.Load address width value device mark) sources = r
 marked_by_stored marks (access.Store address width value true) sources = refl
 marked_by_stored marks (access.Store address width value false) sources = refl
 marked_by_stored marks (access.Swap address old new) sources = refl
-
--- a store of a register
-pub stored_register : (marks : Place → ℕ) (access : Access) (n mark : ℕ) → mark ≡ marks (Register n) → given_stored access mark ≡ marked_by marks (writes_bytes access (register n))
-stored_register marks access n mark is = ap (given_stored access) (is ∙ sym (or_nothing (marks (Register n)))) ∙ sym (marked_by_stored marks access (register n))
 
 -- a search for any bit finds the least marked byte
 marked_test : (v : ℕ) → v < 2 ^ 8 → bit_and v 255 ≡ 0 → not (v == 0) ≡ false

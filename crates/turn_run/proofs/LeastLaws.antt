@@ -10,11 +10,7 @@ module _ (limits : List ℕ) (end : ℕ) where
   least-push [] reader = refl
   least-push (first ∷ readers) reader = omega (arith, least-push readers reader)
 
-  -- it is at most the end, and at most each limit
-  pub least-end : (readers : List ℕ) → least_limit limits end readers ≤ end
-  least-end [] = omega arith
-  least-end (first ∷ readers) = omega (arith, least-end readers)
-
+  -- it is at most each limit
   pub least-each : (readers : List ℕ) (place : ℕ) → place < length readers → least_limit limits end readers ≤ slice_index limits (slice_index readers place)
   least-each [] place less = absurd (omega (arith, less))
   least-each (first ∷ readers) zero less = omega arith
