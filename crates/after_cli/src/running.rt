@@ -5,10 +5,11 @@ ghost use Rattle.after_edge.specs.Sink.{Writes, WritesPart};
 ghost use Rattle.analysis_model.specs.Report.{head_text, part_text};
 ghost use Rattle.guard_run.specs.Closings.{IsWholeRun};
 ghost use Rattle.guard_run.specs.Jobs.{IsRunnable, job_of};
+ghost use Rattle.guard_run.specs.Openings.{IsOpened, IsOpenedRun, replicas_in};
 ghost use Rattle.job_model.specs.Job.{Job, events, guest};
 ghost use Rattle.job_model.specs.Text.{has_finding, report, status, status_of};
 ghost use Rattle.run_settings.specs.Patterns.{IsPattern};
-ghost use Rattle.after_cli.specs.JobEnds.{IsOver, JobEnds};
+ghost use Rattle.after_cli.specs.JobEnds.{IsOver, JobEnds, JobEndsBy};
 
 use after_edge::{Failed, Sink};
 use analysis_model::RunFacts;
@@ -105,6 +106,28 @@ fn tell<O: Sink>(closing: &Closing, count: u32, out: &mut O) -> Result<u8, Faile
     Ok(status_number(facts.end, has_finding(closing, count)))
 }
 
+// Takes the turns of a run that was opened, of so many analyses, writes its report, and tells how it ended. No memory is
+// taken from here on: there is no allocator to ask.
+fn run_opened<O: Sink>(parts: Parts, count: u32, turns: &[Letter], out: &mut O) -> JobEnd
+    requires opened { IsOpenedRun parts }
+    requires count { count ≡ length (replicas_in parts) }
+    requires pattern { IsPattern count turns.now }
+    ensures { (job : Job) → IsOpened job parts
+        → JobEndsBy O.told out.old out.new job turns.now result }
+{
+    let mut run = parts;
+    let ran = run_turns(&mut run, turns, out);
+    let closing = run.finish();
+    match ran {
+        Ok(()) => {}
+        Err(_) => return JobEnd::OutputFailed { closing },
+    }
+    match tell(&closing, count, out) {
+        Ok(status) => JobEnd::Done { status, closing },
+        Err(_) => JobEnd::OutputFailed { closing },
+    }
+}
+
 /// Runs a job by turns of a pattern: its released output and its report go out. It takes memory to open the run, and then
 /// none; where there is none to open it, nothing is written.
 pub fn run_job<O: Sink>(
@@ -124,18 +147,6 @@ pub fn run_job<O: Sink>(
         script,
         disk,
     } = inputs;
-    let mut parts = match Parts::new(alloc, job, &image, script, disk) {
-        Ok(parts) => parts,
-        Err(fault) => return Err(fault),
-    };
-    let ran = run_turns(&mut parts, turns, out);
-    let closing = parts.finish();
-    match ran {
-        Ok(()) => {}
-        Err(_) => return Ok(JobEnd::OutputFailed { closing }),
-    }
-    match tell(&closing, job.kinds.len(), out) {
-        Ok(status) => Ok(JobEnd::Done { status, closing }),
-        Err(_) => Ok(JobEnd::OutputFailed { closing }),
-    }
+    let parts = Parts::new(alloc, job, &image, script, disk)?;
+    Ok(run_opened(parts, job.kinds.len(), turns, out))
 }

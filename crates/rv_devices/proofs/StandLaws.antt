@@ -16,7 +16,7 @@ use Rattle.rv_devices.specs.declared.timer.Timer.{Timer}
 use Rattle.rv_devices.specs.declared.transfer.Transfer.{Transfer}
 use Rattle.rv_devices.specs.Entries.{AreLater, ticks_before}
 use Rattle.rv_devices.specs.Follows.{Follows}
-use Rattle.rv_devices.specs.Serves.{Serves, NotBefore, activity_of}
+use Rattle.rv_devices.specs.Serves.{Serves, NotBefore, activity_of, completes_before}
 use Rattle.rv_devices.specs.Stands.{Stands, quiet_ahead}
 use Rattle.rv_devices.specs.Still.{IsStill}
 use Rattle.rv_devices.specs.Times.{Times, passed, steady_until}
@@ -135,6 +135,12 @@ NotBefore-less low high code.Idle less far = tt
 NotBefore-less low high (code.Busy before) less far = omega (arith, far, less)
 NotBefore-less low high code.Done less far = tt
 NotBefore-less low high code.Refused less far = tt
+
+pub NotBefore-own : (a : Activity) → NotBefore (completes_before a) a
+NotBefore-own code.Idle = tt
+NotBefore-own (code.Busy before) = omega arith
+NotBefore-own code.Done = tt
+NotBefore-own code.Refused = tt
 
 pub NotBefore-zero : (a : Activity) → NotBefore 0 a
 NotBefore-zero code.Idle = tt

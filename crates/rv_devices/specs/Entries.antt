@@ -1,6 +1,6 @@
 -- Entries of a script that are due, and what those before a place say.
 use Rattle.std.proofs.Common.{zero, suc}
-use Rattle.std.specs.Prelude.{ℕ, ◌≤◌, ◌<◌, List, [], ◌∷◌, take, sum_by, slice_get}
+use Rattle.std.specs.Prelude.{ℕ, ◌-◌, ◌^◌, ◌≤◌, ◌<◌, List, [], ◌∷◌, take, sum_by, slice_get}
 use Rattle.std.specs.Option.{option_map_or}
 use Rattle.std.specs.List.{filter_map}
 use Rattle.machine_model.specs.Script.{Entry}
@@ -16,6 +16,10 @@ AreDue begun (suc place) (entry ∷ entries) = (entry.at < begun) × AreDue begu
 abbrev pub AreLater : ℕ → List Entry → Type 0
 AreLater step [] = Unit {0}
 AreLater step (entry ∷ entries) = (step ≤ entry.at) × AreLater step entries
+
+-- the step before which the entry at this place is due; where there is none, one that no run reaches
+abbrev pub entry_due : List Entry → ℕ → ℕ
+entry_due entries place = option_map_or (λ entry. entry.at) (slice_get entries place) (2 ^ 64 - 1)
 
 -- the ticks of the entries before a place, and the latency that they leave in force
 abbrev pub ticks_of : Entry → ℕ

@@ -24,6 +24,13 @@ NotBefore step (code.Busy before) = step ≤ before
 NotBefore step code.Done = Unit {0}
 NotBefore step code.Refused = Unit {0}
 
+-- the step before which the command that is being done completes; where there is none, one that no run reaches
+abbrev pub completes_before : Activity → ℕ
+completes_before code.Idle = 2 ^ 64 - 1
+completes_before (code.Busy before) = before
+completes_before code.Done = 2 ^ 64 - 1
+completes_before code.Refused = 2 ^ 64 - 1
+
 -- a disk of a board in this state, with these words still to be handed out
 pub record Serves (script : Script) (words : List DmaWord) (state : model.BoardState) (disk : Disk)
     : Type 0 where

@@ -1,13 +1,13 @@
 -- What a board stands for.
-use Rattle.std.specs.Prelude.{◌≡◌, ℕ, ◌-◌, ◌^◌, ◌≤◌, min, List, drop}
+use Rattle.std.specs.Prelude.{◌≡◌, ℕ, ◌-◌, ◌^◌, ◌≤◌, Bool, min, nat_le, List, drop}
 use Rattle.run_events.specs.declared.supply.DmaWord.{DmaWord}
 use Rattle.machine_model.specs.Script.{Script, Entry}
 use Rattle.machine_model.specs.Board.{BoardState, IsPlayable}
 use Rattle.rv_devices.specs.declared.board.Board.{Board}
-use Rattle.rv_devices.specs.Entries.{AreLater, ticks_before}
+use Rattle.rv_devices.specs.Entries.{AreLater, entry_due, ticks_before}
 use Rattle.rv_devices.specs.Follows.{Follows}
 use Rattle.rv_devices.specs.Sends.{unsent}
-use Rattle.rv_devices.specs.Serves.{Serves, NotBefore}
+use Rattle.rv_devices.specs.Serves.{Serves, NotBefore, completes_before}
 use Rattle.rv_devices.specs.Times.{Times, steady_until}
 
 -- how many steps have begun, and how many words `due` has still to hand out
@@ -20,6 +20,20 @@ words_due board = unsent board.disk.sending
 -- before so many of the steps to come nothing falls due, and the timer's line stays
 abbrev pub quiet_ahead : Board → ℕ
 quiet_ahead board = min (min board.quiet (steady_until board.timer)) (2 ^ 32) - board.begun
+
+-- what a board keeps of its last look at script and disk: nothing of theirs falls due before that step
+abbrev pub last_look : Board → ℕ
+last_look board = board.quiet
+
+-- what such a look finds: the step before which the next entry is due or a command completes
+abbrev pub look_now : Board → ℕ
+look_now board =
+    min (entry_due board.schedule.entries.items board.schedule.place)
+    (completes_before board.disk.activity)
+
+-- whether a board looks anew before it begins this step
+abbrev pub looks_before : ℕ → Board → Bool
+looks_before step board = nat_le (min board.quiet board.timer.rise) step
 
 -- neither the script nor the disk brings anything before the step that it keeps
 pub record IsQuiet (entries : List Entry) (board : Board) : Type 0 where

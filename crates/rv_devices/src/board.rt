@@ -98,7 +98,7 @@ impl Board {
     ghost use Rattle.machine_model.specs.Board.{BoardState, IsPlayable};
     ghost use Rattle.rv_devices.specs.Effects.{effect_of};
     ghost use Rattle.rv_devices.specs.Named.{named};
-    ghost use Rattle.rv_devices.specs.Stands.{Stands, quiet_ahead, steps_begun, words_due};
+    ghost use Rattle.rv_devices.specs.Stands.{Stands, last_look, look_now, looks_before, quiet_ahead, steps_begun, words_due};
     ghost use Rattle.rv_devices.specs.Still.{AreStill};
 
     /// The board at reset, before the first step, with a disk file that is padded with zeros to whole sectors. It is the
@@ -130,6 +130,7 @@ impl Board {
     // Goes on to a step before which something falls due.
     fn advance(&mut self, step: u32)
         ensures begun { self.new.begun ≡ step + 1 }
+        ensures looks { self.new.quiet ≡ look_now self.new }
         ensures stands { (script : Outside) (state : BoardState)
             → Stands script step [] state self.old
             → Stands script (step + 1) (model.words_before step state)
@@ -149,6 +150,8 @@ impl Board {
         requires order { step ≡ steps_begun self.old }
         requires drained { words_due self.old ≡ 0 }
         ensures begun { steps_begun self.new ≡ step + 1 }
+        ensures looks { last_look self.new ≡ (if looks_before step self.old
+            then look_now self.new else last_look self.old) }
         ensures stands { (script : Outside) (state : BoardState)
             → Stands script step [] state self.old
             → Stands script (step + 1) (model.words_before step state)

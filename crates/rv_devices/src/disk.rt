@@ -61,7 +61,7 @@ impl Disk {
     ghost use Rattle.machine_model.specs.Board as model;
     ghost use Rattle.machine_model.specs.Board.{BoardState};
     ghost use Rattle.rv_devices.specs.Sends.{unsent};
-    ghost use Rattle.rv_devices.specs.Serves.{Begins, NotBefore, Serves, activity_of};
+    ghost use Rattle.rv_devices.specs.Serves.{Begins, NotBefore, Serves, activity_of, completes_before};
 
     /// The disk of these bytes at reset.
     pub fn new(bytes: Vec<u8>, sectors: Vec<Span>) -> Disk
@@ -119,9 +119,9 @@ impl Disk {
         self.status() >= 2 && self.control == 1
     }
 
-    /// The step before which the command that is being done completes.
+    /// The step before which the command that is being done completes; where there is none, one that no run reaches.
     pub fn due(&self) -> u64
-        ensures { NotBefore result self.now.activity }
+        ensures { result ≡ completes_before self.now.activity }
     {
         match self.activity {
             Activity::Busy { before } => before,

@@ -82,7 +82,7 @@ impl Schedule {
     ghost use Rattle.std.specs.Option.{option_map};
     ghost use Rattle.machine_model.specs.Script.{Entry as Arrives};
     ghost use Rattle.machine_model.specs.Board.{RisesFrom, byte_given, given};
-    ghost use Rattle.rv_devices.specs.Entries.{AreDue, AreLater, ticks_before, latency_before, arrivals_at};
+    ghost use Rattle.rv_devices.specs.Entries.{AreDue, AreLater, entry_due, ticks_before, latency_before, arrivals_at};
     ghost use Rattle.rv_devices.specs.Follows.{Follows, left_of, next_byte};
 
     /// The schedule of these entries, before the first step.
@@ -172,9 +172,10 @@ impl Schedule {
         passed
     }
 
-    /// The step before which the next entry is due.
+    /// The step before which the next entry is due; where there is none, one that no run reaches.
     pub fn due(&self) -> u64
-        ensures { RisesFrom 0 self.now.entries.items
+        ensures exact { result ≡ entry_due self.now.entries.items self.now.place }
+        ensures later { RisesFrom 0 self.now.entries.items
             → AreLater result (drop self.now.place self.now.entries.items) }
     {
         if self.place < self.entries.len() {

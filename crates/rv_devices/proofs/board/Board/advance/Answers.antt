@@ -2,8 +2,9 @@ use Rattle.std.proofs.Common.{◌≡◌, ◌+◌, ◌%◌, ◌^◌, drop, arith,
 use Rattle.machine_model.specs.Board.{RisesFrom}
 use Rattle.rv_devices.specs.Entries.{AreLater, ticks_before}
 use Rattle.rv_devices.specs.Follows.{Follows}
+use Rattle.rv_devices.specs.Serves.{completes_before}
 use Rattle.rv_devices.proofs.EntryLaws.{AreLater-less}
-use Rattle.rv_devices.proofs.StandLaws.{NotBefore-less}
+use Rattle.rv_devices.proofs.StandLaws.{NotBefore-less, NotBefore-own}
 use Rattle.rv_devices.proofs.board.Board.advance.Goals as goal
 
 pub returns-clause-stands : goal.returns-clause-stands
@@ -16,7 +17,7 @@ returns-clause-stands c = λ script state stands.
     let ticks : (c.advance-ticks.result + before) % 2 ^ 64 ≡ after % 2 ^ 64 = rw stands.follows.entries_are at c.advance-ticks.ensures.ticks in
     let follows : Follows script.entries (step + 1) state.taken schedule = c.advance-ticks.ensures.follows script.entries state.taken stands.playable.rises stands.follows in
     let rises : RisesFrom 0 schedule.entries.items = subst (RisesFrom 0) (sym follows.entries_are) stands.playable.rises in
-    let far : AreLater c.due.result (drop schedule.place script.entries) = rw follows.entries_are at (c.due.ensures rises) in
+    let far : AreLater c.due.result (drop schedule.place script.entries) = rw follows.entries_are at (c.due.ensures.later rises) in
     record {
       playable = stands.playable;
       begun_is = ap (λ n. n + 1) c.from.ensures;
@@ -28,6 +29,6 @@ returns-clause-stands c = λ script state stands.
       serves = c.advance-2.ensures script state stands.serves;
       is_quiet = record {
         entries_later = AreLater-less c.min-self.result c.due.result (drop schedule.place script.entries) (omega (arith, c.min-self.ensures)) far;
-        disk = NotBefore-less c.min-self.result c.due-2.result c.advance-2.new.self.activity (omega (arith, c.min-self.ensures)) c.due-2.ensures;
+        disk = NotBefore-less c.min-self.result (completes_before c.advance-2.new.self.activity) c.advance-2.new.self.activity (omega (arith, c.min-self.ensures, c.due-2.ensures)) (NotBefore-own c.advance-2.new.self.activity);
       };
     }

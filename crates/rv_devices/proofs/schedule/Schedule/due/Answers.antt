@@ -3,8 +3,8 @@ use Rattle.machine_model.specs.Script.{Entry}
 use Rattle.rv_devices.proofs.EntryLaws.{at_place, later_from}
 use Rattle.rv_devices.proofs.schedule.Schedule.due.Goals as goal
 
-pub returns-then-self-len : goal.returns-then-self-len
-returns-then-self-len c = λ rises.
+pub returns-then-self-len-clause-later : goal.returns-then-self-len-clause-later
+returns-then-self-len-clause-later c = λ rises.
     let s = c.args.self.now in
     let entry : Entry = c.index.result.now in
     let within : s.place < length s.entries.items = search rules in
