@@ -20,7 +20,7 @@ returns-in-Err g c = λ job opened.
       cut = inl (record {
         count = stopped.count;
         put = stopped.put;
-        went = record { opened = c.args.parts; over = c.run_turns-ran.new.run; before = opened; taken = c.in-Err.ensures.stops; stopped = stopped.stopped };
+        went = record { opened = c.args.parts; over = c.run_turns-ran.new.parts; before = opened; taken = c.in-Err.ensures.stops; stopped = stopped.stopped };
         added = stopped.added;
         closing_is = c.finish-closing.ensures.cut job stopped.count stopped.put stopped.stopped;
       });
@@ -41,7 +41,7 @@ returns-in-Ok-tell g c = λ job opened.
     let whole = c.finish-closing.ensures.whole job ended.ended in
     record {
       between = c.run_turns-ran.new.out;
-      went = record { opened = c.args.parts; over = c.run_turns-ran.new.run; before = opened; taken = c.in-Ok.ensures.turns; ended = ended.ended };
+      went = record { opened = c.args.parts; over = c.run_turns-ran.new.parts; before = opened; taken = c.in-Ok.ensures.turns; ended = ended.ended };
       told = c.in-Ok-tell.ensures.ok job whole;
       written = Writes-then g.O.Sink.told c.args.out.now c.run_turns-ran.new.out c.tell.new.out (released_bytes job) (report job) ended.put (c.in-Ok-tell.ensures.ok job whole);
       status_is = c.in-Ok-tell.ensures.status job whole;
@@ -57,7 +57,7 @@ returns-in-Err-tell g c = λ job opened.
       written = WritesPart-then g.O.Sink.told c.args.out.now c.run_turns-ran.new.out c.tell.new.out (released_bytes job) (report job) ended.put told;
       cut = inr (record {
         between = c.run_turns-ran.new.out;
-        went = record { opened = c.args.parts; over = c.run_turns-ran.new.run; before = opened; taken = c.in-Ok.ensures.turns; ended = ended.ended };
+        went = record { opened = c.args.parts; over = c.run_turns-ran.new.parts; before = opened; taken = c.in-Ok.ensures.turns; ended = ended.ended };
         part = told.part;
         is_prefix = told.is_prefix;
         told = told.added;
