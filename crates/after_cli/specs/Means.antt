@@ -1,5 +1,5 @@
 -- What each answer of the call's inside means.
-use Rattle.std.specs.Prelude.{◌≡◌, ℕ, List, Option, Some, None, Result, Ok, Err}
+use Rattle.std.specs.Prelude.{◌≡◌, ◌≢◌, ℕ, List, Option, Some, None, Result, Ok, Err}
 use Rattle.after_edge.specs.Files.{Contents}
 use Rattle.after_edge.specs.declared.sink.Failed.{Failed}
 use Rattle.after_edge.specs.Sink.{Telling}
@@ -55,3 +55,12 @@ ShowsText (Ok shown) err old new outcome =
     (outcome ≡ record { status = 0; closing = None }) × (new ≡ old)
 ShowsText (Err failed) err old new outcome =
     (outcome ≡ record { status = 6; closing = None }) × TellsLine err old new output_failed_line
+
+-- the end of a call whose output was flushed: as it was, or the end of an output that failed, which is told once
+abbrev pub EndsFlushed : {E : Type 0} → Outcome → Result (Unit {0}) Failed → Telling E → (old new : E) → Outcome
+    → Type 0
+EndsFlushed ended (Ok flushed) err old new outcome = (outcome ≡ ended) × (new ≡ old)
+EndsFlushed ended (Err failed) err old new outcome =
+    (ended.status ≡ 6 → (outcome ≡ ended) × (new ≡ old))
+    × (ended.status ≢ 6 → (outcome ≡ record { status = 6; closing = ended.closing })
+    × TellsLine err old new output_failed_line)

@@ -4,4 +4,4 @@
 mod running;
 mod top;
 
-pub use top::{Outcome, aftersight_plain, end_shown, end_with, refusal_before};
+pub use top::{Outcome, aftersight_plain, end_flushed, end_shown, end_with, refusal_before};

@@ -16,7 +16,7 @@ ghost use Rattle.after_cli.specs.Asked.{AreNoJob, AskForNoRun, AsksForMore, IsAs
 ghost use Rattle.after_cli.specs.JobEnds.{JobEnds};
 ghost use Rattle.after_cli.specs.Ends.{Ends, TellsLine};
 ghost use Rattle.after_cli.specs.Exact.{IsRight};
-ghost use Rattle.after_cli.specs.Means.{Concludes, ShowsText, Means};
+ghost use Rattle.after_cli.specs.Means.{Concludes, EndsFlushed, ShowsText, Means};
 
 use crate::running::{JobEnd, run_job};
 use after_edge::{Failed, Files, Sink};
@@ -156,6 +156,17 @@ pub fn end_shown<E: Sink>(shown: Result<(), Failed>, err: &mut E) -> Outcome
             closing: None,
         },
         Err(Failed) => end_failed(None, err),
+    }
+}
+
+/// The end of a call once its output was flushed, by what the flush came to: as it was, or 6 and its line where the flush
+/// failed and no put had.
+pub fn end_flushed<E: Sink>(ended: Outcome, flushed: Result<(), Failed>, err: &mut E) -> Outcome
+    ensures { EndsFlushed ended flushed E.told err.old err.new result }
+{
+    match flushed {
+        Err(Failed) if ended.status != 6 => end_failed(ended.closing, err),
+        _ => ended,
     }
 }
 

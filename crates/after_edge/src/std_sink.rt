@@ -1,6 +1,6 @@
 //! The host's streams.
-ghost use Rattle.std.specs.Prelude.{◌≡◌, ℕ, List, is_err, OnOk, OnErr};
-ghost use Rattle.std.specs.Io.KnownBytes.{Appends};
+ghost use Rattle.std.specs.Prelude.{◌≡◌, ℕ, true, List, is_err, OnOk, OnErr};
+ghost use Rattle.std.specs.Io.KnownBytes.{Appends, Keeps};
 ghost use Rattle.after_edge.specs.Fault.{Counted};
 ghost use Rattle.after_edge.specs.Sink.{Writes, WritesPart};
 
@@ -25,14 +25,26 @@ impl<W: Write + Drop> StdSink<W> {
     {
         StdSink { writer, faults: 0 }
     }
-}
 
-// Writes all bytes, and hands them on to the host.
-fn write_through<W: Write>(writer: &mut W, piece: &[u8]) -> io::Result<()>
-    ensures { OnOk result (Appends (W.contents writer.old) (W.contents writer.new) piece.now) }
-{
-    writer.write_all(piece)?;
-    writer.flush()
+    // Counts a failure of the writer.
+    fn fail(&mut self) -> Failed
+        ensures counted { Counted true (puts_failed self.old) (puts_failed self.new) }
+        ensures writer { writer_of self.new ≡ writer_of self.old }
+    {
+        self.faults = self.faults.saturating_add(1);
+        Failed
+    }
+
+    /// Has the writer hand on what it holds back. The count rises exactly where that fails.
+    pub fn flush(&mut self) -> Result<(), Failed>
+        ensures counted { Counted (is_err result) (puts_failed self.old) (puts_failed self.new) }
+        ensures kept { Keeps (W.contents (writer_of self.old)) (W.contents (writer_of self.new)) }
+    {
+        match self.writer.flush() {
+            Ok(()) => Ok(()),
+            Err(_) => Err(self.fail()),
+        }
+    }
 }
 
 impl<W: Write + Drop> Sink for StdSink<W> {
@@ -40,7 +52,7 @@ impl<W: Write + Drop> Sink for StdSink<W> {
 
     ghost told = { host_sink };
 
-    /// Writes the whole piece and flushes. The count rises exactly where that fails.
+    /// Writes the whole piece; a writer with a buffer may hold some of it back. The count rises exactly where that fails.
     fn put(&mut self, piece: &[u8]) -> Result<(), Failed>
         ensures ok { OnOk result (Writes host_sink self.old self.new piece.now) }
         ensures err { OnErr result (WritesPart host_sink self.old self.new piece.now) }
@@ -48,12 +60,9 @@ impl<W: Write + Drop> Sink for StdSink<W> {
         ensures written { OnOk result (Appends (W.contents (writer_of self.old))
             (W.contents (writer_of self.new)) piece.now) }
     {
-        match write_through(&mut self.writer, piece) {
+        match self.writer.write_all(piece) {
             Ok(()) => Ok(()),
-            Err(_) => {
-                self.faults = self.faults.saturating_add(1);
-                Err(Failed)
-            }
+            Err(_) => Err(self.fail()),
         }
     }
 }

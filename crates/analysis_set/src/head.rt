@@ -16,7 +16,7 @@ pub fn report_head<O: Sink>(facts: &RunFacts, out: &mut O) -> Result<(), Failed>
     ensures err { OnErr result (WritesPart O.told out.old out.new (head_text facts.now)) }
 {
     let all = [
-        Line::new().ended(),
+        Line::new().with_line_feed(),
         lines::title(),
         lines::steps(facts.steps),
         lines::end(facts.end),

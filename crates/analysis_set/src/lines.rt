@@ -11,7 +11,7 @@ use text_line::Line;
 pub(crate) fn title() -> Line
     ensures { result ≡ title_line }
 {
-    Line::new().text("== aftersight report").ended()
+    Line::new().text("== aftersight report").with_line_feed()
 }
 
 // How many steps the run had.
@@ -19,7 +19,7 @@ pub(crate) fn title() -> Line
 pub(crate) fn steps(steps: u32) -> Line
     ensures { result ≡ steps_line steps }
 {
-    Line::new().text("steps ").number(u64::from(steps)).ended()
+    Line::new().text("steps ").number(u64::from(steps)).with_line_feed()
 }
 
 // Why the run ended.
@@ -31,8 +31,8 @@ pub(crate) fn end(cause: EndCause) -> Line
         EndCause::Power { status } => Line::new()
             .text("end power ")
             .number(u64::from(status))
-            .ended(),
-        EndCause::Limit => Line::new().text("end limit").ended(),
+            .with_line_feed(),
+        EndCause::Limit => Line::new().text("end limit").with_line_feed(),
     }
 }
 
@@ -46,7 +46,7 @@ pub(crate) fn output(issued: u32, released: u32) -> Line
         .number(u64::from(issued))
         .text(" released ")
         .number(u64::from(released))
-        .ended()
+        .with_line_feed()
 }
 
 // How many records the log had.
@@ -54,7 +54,7 @@ pub(crate) fn output(issued: u32, released: u32) -> Line
 pub(crate) fn records(items: u64) -> Line
     ensures { result ≡ records_line items }
 {
-    Line::new().text("records ").number(items).ended()
+    Line::new().text("records ").number(items).with_line_feed()
 }
 
 // The name of an analysis.
@@ -115,7 +115,7 @@ pub(crate) fn findings(kind: Kind, count: u64, first: Option<u32>) -> Line
         .text(" findings ")
         .number(count)
         .text(" first ");
-    with_step(counted, first).ended()
+    with_step(counted, first).with_line_feed()
 }
 
 // Of calls: how many returns answer no call.
@@ -123,7 +123,7 @@ pub(crate) fn findings(kind: Kind, count: u64, first: Option<u32>) -> Line
 pub(crate) fn unmatched(count: u64) -> Line
     ensures { result ≡ unmatched_line count }
 {
-    Line::new().text("calls unmatched ").number(count).ended()
+    Line::new().text("calls unmatched ").number(count).with_line_feed()
 }
 
 // Of coverage: how many pc values were executed, and how many ranges they make up.
@@ -136,7 +136,7 @@ pub(crate) fn pcs(pcs: u64, ranges: u64) -> Line
         .number(pcs)
         .text(" ranges ")
         .number(ranges)
-        .ended()
+        .with_line_feed()
 }
 
 // Of coverage: a range, from its first address to the one after its last.
@@ -149,7 +149,7 @@ pub(crate) fn range(from: u32, to: u32) -> Line
         .hexadecimal(from)
         .text(" ")
         .hexadecimal(to)
-        .ended()
+        .with_line_feed()
 }
 
 // One finding.
@@ -167,5 +167,5 @@ pub(crate) fn finding(kind: Kind, finding: &Finding) -> Line
         .hexadecimal(finding.pc)
         .text(" addr ")
         .hexadecimal(finding.address)
-        .ended()
+        .with_line_feed()
 }

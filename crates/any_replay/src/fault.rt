@@ -27,7 +27,7 @@ fn is_after_power(steps: u32, status: u8, item: &Record) -> bool
 // The fault of a record whose steps are not all done, or which does not follow the power store of the last one. What the
 // step to come needs is asked only where that step is missing.
 #[inline(always)]
-fn halted<H: Hart>(standing: &Standing<H>, item: &Record) -> Option<Diverged>
+fn halt_fault_of<H: Hart>(standing: &Standing<H>, item: &Record) -> Option<Diverged>
     ensures { result ≡ halt_fault (H.done standing.now.hart) standing.now.power
         (wait_fault H.machine (held_of H.done standing.now)) item.now }
 {
@@ -112,7 +112,7 @@ pub fn fault<H: Hart>(standing: &Standing<H>, item: &Record) -> Option<Diverged>
     ensures { (start : H) → H.ram_size start ≡ H.ram_size standing.now.hart
         → result ≡ held_fault H.machine start item.now (held_of H.done standing.now) }
 {
-    match halted(standing, item) {
+    match halt_fault_of(standing, item) {
         Some(fault) => Some(fault),
         None => own_fault(standing, item),
     }

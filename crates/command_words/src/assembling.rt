@@ -50,7 +50,7 @@ fn is_best(draft: &Draft<'_>) -> bool
 }
 
 // The analyses that are named, or all.
-fn chosen(draft: &Draft<'_>) -> Kinds
+fn chosen_kinds(draft: &Draft<'_>) -> Kinds
     ensures { result ≡ chosen (held draft.now) }
 {
     match draft.value(Setting::With) {
@@ -64,13 +64,13 @@ fn named_required(draft: &Draft<'_>) -> Kinds
     ensures { result ≡ named_required (held draft.now) }
 {
     match draft.value(Setting::Require) {
-        Some(given) => required_in(given.text).unwrap_or(chosen(draft)),
-        None => chosen(draft),
+        Some(given) => required_in(given.text).unwrap_or(chosen_kinds(draft)),
+        None => chosen_kinds(draft),
     }
 }
 
 // The analyses that have to approve; in best-effort mode none has to.
-fn required(draft: &Draft<'_>) -> Kinds
+fn required_kinds(draft: &Draft<'_>) -> Kinds
     ensures { result ≡ required (held draft.now) }
 {
     if is_best(draft) {
@@ -128,7 +128,7 @@ fn disk<'a>(draft: &Draft<'a>) -> Option<&'a str>
 fn turns(draft: &Draft<'_>) -> Turns
     ensures { result ≡ turns (held draft.now) }
 {
-    let plain = Turns::plain(chosen(draft).len());
+    let plain = Turns::plain(chosen_kinds(draft).len());
     match draft.value(Setting::Turns) {
         Some(given) => turns_in(given.text).unwrap_or(plain),
         None => plain,
@@ -140,7 +140,7 @@ fn turns(draft: &Draft<'_>) -> Turns
 fn crossed_required(draft: &Draft<'_>) -> bool
     ensures { result ≡ crossed_required (held draft.now) }
 {
-    is_best(draft) || !are_among(&named_required(draft), &chosen(draft))
+    is_best(draft) || !are_among(&named_required(draft), &chosen_kinds(draft))
 }
 
 // Whether each kind of the first list is in the second.
@@ -167,7 +167,7 @@ fn are_crossed(threads: u32, is_pattern: bool) -> bool
 fn crossed_turns(draft: &Draft<'_>) -> bool
     ensures { result ≡ crossed_turns (held draft.now) }
 {
-    are_crossed(threads(draft), turns(draft).is_pattern(chosen(draft).len()))
+    are_crossed(threads(draft), turns(draft).is_pattern(chosen_kinds(draft).len()))
 }
 
 // The number of an option's value, where it stands and does not go with the others.
@@ -200,8 +200,8 @@ fn run_of<'a>(draft: &Draft<'a>) -> Result<Command<'a>, WordsFault>
         ram_kib: ram(draft),
         limit: steps(draft),
         log: log(draft),
-        kinds: chosen(draft),
-        required: required(draft),
+        kinds: chosen_kinds(draft),
+        required: required_kinds(draft),
         threads: threads(draft),
         turns: turns(draft),
     }))
@@ -228,7 +228,7 @@ fn analyze_of<'a>(draft: &Draft<'a>) -> AnalyzeWords<'a>
     AnalyzeWords {
         image: draft.plain_word(0),
         log_file: draft.plain_word(1),
-        kinds: chosen(draft),
+        kinds: chosen_kinds(draft),
     }
 }
 

@@ -19,7 +19,7 @@ use crate::value::{is_option, is_plain, is_value, seed_in, size_in};
 fn option_of(draft: &Draft<'_>, command: CommandName, word: &str) -> Option<Setting>
     ensures { result ≡ option_of command (λ setting. is_some (held draft.now setting)) word.now }
 {
-    let Some(setting) = Setting::named(word) else {
+    let Some(setting) = Setting::of_word(word) else {
         return None;
     };
     if setting.belongs(command) && draft.value(setting).is_none() {
@@ -138,7 +138,7 @@ fn command_in(words: &[String]) -> Result<Command<'_>, WordsFault>
     let [first, later @ ..] = words else {
         return Err(WordsFault::Missing);
     };
-    match CommandName::named(first.as_str()) {
+    match CommandName::of_word(first.as_str()) {
         Some(command) => read_as(command, later),
         None => Err(WordsFault::Word { number: 1 }),
     }
@@ -164,7 +164,7 @@ pub fn first_bad_before(words: &[String]) -> Option<u32>
     let [first, later @ ..] = words else {
         return None;
     };
-    let command = match CommandName::named(first.as_str()) {
+    let command = match CommandName::of_word(first.as_str()) {
         Some(command) => command,
         None => return Some(1),
     };

@@ -15,7 +15,7 @@ pub(crate) enum CommandName {
 impl CommandName {
     // The command of this name.
     #[tactic(auto, unfolding(crate::specs::Table::command_named))]
-    pub(crate) fn named(word: &str) -> Option<CommandName>
+    pub(crate) fn of_word(word: &str) -> Option<CommandName>
         ensures { result ≡ command_named word.now }
     {
         if word == "run" {
@@ -71,7 +71,7 @@ impl Setting {
 
     // The option that this word stands for.
     #[tactic(auto, unfolding(crate::specs::Table::setting_named))]
-    pub(crate) fn named(word: &str) -> Option<Setting>
+    pub(crate) fn of_word(word: &str) -> Option<Setting>
         ensures { result ≡ setting_named word.now }
     {
         if word == "--disk" {

@@ -116,7 +116,7 @@ fn put_entries(out: &mut Vec<u8>, entries: &[Entry]) -> Result<(), NoMemory>
 
 // The canonical text of a script, as `print` says.
 #[tactic(auto, unfolding(format_model::specs::Script::printed))]
-fn printed(alloc: Global, script: &Script) -> Result<Vec<u8>, NoMemory>
+fn canonical_text(alloc: Global, script: &Script) -> Result<Vec<u8>, NoMemory>
     ensures { IfOk result (λ text. text.items ≡ printed script.now) }
 {
     let mut out = Vec::new(alloc);
@@ -134,5 +134,5 @@ pub fn print(alloc: Global, script: &Script) -> Result<Vec<u8>, NoMemory>
     // So `parse` of it gives the same script.
     ensures again { IfOk result (λ text. IsScript text.items script.now) }
 {
-    printed(alloc, script)
+    canonical_text(alloc, script)
 }

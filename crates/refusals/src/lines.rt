@@ -13,7 +13,7 @@ use text_line::Line;
 pub fn output_failed() -> Line
     ensures { result ≡ output_failed_line }
 {
-    Line::new().text("output failed").ended()
+    Line::new().text("output failed").with_line_feed()
 }
 
 // The words are a job that is not built.
@@ -21,7 +21,7 @@ pub fn output_failed() -> Line
 pub(crate) fn not_built() -> Line
     ensures { result ≡ not_built_line }
 {
-    Line::new().text("not built").ended()
+    Line::new().text("not built").with_line_feed()
 }
 
 // There was no memory.
@@ -29,7 +29,7 @@ pub(crate) fn not_built() -> Line
 pub(crate) fn no_memory() -> Line
     ensures { result ≡ no_memory_line }
 {
-    Line::new().text("no memory").ended()
+    Line::new().text("no memory").with_line_feed()
 }
 
 // What is wrong with words: which one is bad, or that one is missing.
@@ -41,8 +41,8 @@ pub(crate) fn words(fault: WordsFault) -> Line
         WordsFault::Word { number } => Line::new()
             .text("words: word ")
             .number(u64::from(number))
-            .ended(),
-        WordsFault::Missing => Line::new().text("words: missing").ended(),
+            .with_line_feed(),
+        WordsFault::Missing => Line::new().text("words: missing").with_line_feed(),
     }
 }
 
@@ -65,28 +65,28 @@ pub(crate) fn inputs(fault: InputFault) -> Line
 fn files_failed() -> Line
     ensures { result ≡ files_failed_line }
 {
-    Line::new().text("files: failed").ended()
+    Line::new().text("files: failed").with_line_feed()
 }
 
 #[tactic(auto, unfolding(crate::specs::Lines::image_long_line))]
 fn image_long() -> Line
     ensures { result ≡ image_long_line }
 {
-    Line::new().text("image: too long").ended()
+    Line::new().text("image: too long").with_line_feed()
 }
 
 #[tactic(auto, unfolding(crate::specs::Lines::script_long_line))]
 fn script_long() -> Line
     ensures { result ≡ script_long_line }
 {
-    Line::new().text("script: too long").ended()
+    Line::new().text("script: too long").with_line_feed()
 }
 
 #[tactic(auto, unfolding(crate::specs::Lines::disk_long_line))]
 fn disk_long() -> Line
     ensures { result ≡ disk_long_line }
 {
-    Line::new().text("disk: too long").ended()
+    Line::new().text("disk: too long").with_line_feed()
 }
 
 // What is wrong with an image.
@@ -95,17 +95,17 @@ fn image(fault: ImageFault) -> Line
     ensures { result ≡ image_line fault }
 {
     match fault {
-        ImageFault::Short { need } => Line::new().text("image: short need ").number(need).ended(),
+        ImageFault::Short { need } => Line::new().text("image: short need ").number(need).with_line_feed(),
         ImageFault::NotThis { field } => Line::new()
             .text("image: not this field ")
             .number(u64::from(field))
-            .ended(),
-        ImageFault::BadTable => Line::new().text("image: bad table").ended(),
+            .with_line_feed(),
+        ImageFault::BadTable => Line::new().text("image: bad table").with_line_feed(),
         ImageFault::SegmentShape { index } => segment(index, " shape"),
         ImageFault::SegmentOutside { index } => segment(index, " outside"),
         ImageFault::Overlap { first, second } => overlap(first, second),
-        ImageFault::NoSegment => Line::new().text("image: no segment").ended(),
-        ImageFault::EntryOutside => Line::new().text("image: entry outside").ended(),
+        ImageFault::NoSegment => Line::new().text("image: no segment").with_line_feed(),
+        ImageFault::EntryOutside => Line::new().text("image: entry outside").with_line_feed(),
         ImageFault::NoMemory => no_memory(),
     }
 }
@@ -120,7 +120,7 @@ fn segment(index: u32, what: &str) -> Line
         .text("image: segment ")
         .number(u64::from(index))
         .text(what)
-        .ended()
+        .with_line_feed()
 }
 
 // The segments of these headers share an address.
@@ -134,7 +134,7 @@ fn overlap(first: u32, second: u32) -> Line
         .text(" ")
         .number(u64::from(second))
         .text(" overlap")
-        .ended()
+        .with_line_feed()
 }
 
 // What is wrong with a script.
@@ -160,5 +160,5 @@ fn script_line(line: u32, what: &str) -> Line
         .text("script: line ")
         .number(u64::from(line))
         .text(what)
-        .ended()
+        .with_line_feed()
 }

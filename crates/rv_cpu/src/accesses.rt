@@ -80,7 +80,7 @@ impl Engine {
     {
         let value = self.ram.load(address, width);
         Done::Accessed {
-            result: self.put(rd, alu::loaded(op, value)),
+            result: self.put(rd, alu::load_result(op, value)),
             access: Access::Load {
                 address,
                 width,
@@ -155,7 +155,7 @@ impl Engine {
         }
         let value = value_of(supplied);
         Done::Accessed {
-            result: self.put(rd, alu::loaded(op, value)),
+            result: self.put(rd, alu::load_result(op, value)),
             access: Access::Load {
                 address,
                 width: alu::load_width(op),

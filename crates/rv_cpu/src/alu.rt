@@ -204,7 +204,7 @@ fn extend_halfword(word: u32) -> u32
 
 /// What a load writes to its register: the low bytes of a word, extended by their sign or by zero. (2.6)
 #[inline(always)]
-pub fn loaded(op: LoadOp, word: u32) -> u32
+pub fn load_result(op: LoadOp, word: u32) -> u32
     ensures { result ≡ operations.load_result op word }
 {
     match op {
@@ -217,7 +217,7 @@ pub fn loaded(op: LoadOp, word: u32) -> u32
 }
 
 /// The word that an atomic leaves in memory, by the word that was there and its register. (8.2 and 8.4)
-pub fn swapped(op: AtomicOp, old: u32, register: u32) -> u32
+pub fn swap_result(op: AtomicOp, old: u32, register: u32) -> u32
     ensures { result ≡ operations.swapped op old register }
 {
     match op {

@@ -121,7 +121,7 @@ impl Engine {
             };
         }
         let old = self.ram.load(address, 4);
-        let new = alu::swapped(op, old, value);
+        let new = alu::swap_result(op, old, value);
         self.ram.store(address, 4, new);
         Done::Accessed {
             result: self.put(rd, old),

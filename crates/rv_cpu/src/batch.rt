@@ -98,7 +98,7 @@ impl Engine {
             return None;
         }
         let value = self.ram.load(address, width);
-        self.batch_write(size, pc, rd, alu::loaded(op, value))
+        self.batch_write(size, pc, rd, alu::load_result(op, value))
     }
 
     // The same, with a body of its own for each operation, in which the compiler knows the width.

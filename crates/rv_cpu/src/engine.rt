@@ -86,7 +86,7 @@ impl Engine {
 
     /// What x10, x11 and x12 hold.
     #[inline(always)]
-    pub fn told(&self) -> Told
+    pub fn argument_registers(&self) -> Told
         ensures { result ≡ told_by self.now.registers }
     {
         Told {

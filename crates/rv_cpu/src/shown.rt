@@ -81,7 +81,7 @@ impl Engine {
             next: self.next(SIZE),
             result: self.put(0, 0),
             access: Access::Quiet,
-            told: self.told(),
+            told: self.argument_registers(),
         };
         self.pc = self.next(SIZE);
         seen.see(&event);
@@ -114,7 +114,7 @@ impl Engine {
         let Some(instr) = decode(word) else {
             return false;
         };
-        let told = self.told();
+        let told = self.argument_registers();
         let done = self.execute_plainly(lines, word, SIZE, instr);
         self.tell(behind, told, word, done, seen)
     }

@@ -111,7 +111,7 @@ impl Engine {
         ensures { step_by self.old word (outcome self.old lines supplied word size instr)
             ≡ (result, self.new) }
     {
-        let told = self.told();
+        let told = self.argument_registers();
         let done = self.execute(lines, supplied, word, size, instr);
         self.conclude(word, size, told, done)
     }
@@ -135,7 +135,7 @@ impl Engine {
             (model.loading self.old supplied size op rd (sum (register self.old rs1) offset))
             ≡ (result, self.new) }
     {
-        let told = self.told();
+        let told = self.argument_registers();
         let done = self.load(supplied, size, op, rd, rs1, offset);
         self.conclude(word, size, told, done)
     }
@@ -159,7 +159,7 @@ impl Engine {
             (sum (register self.old rs1) offset))
             ≡ (result, self.new) }
     {
-        let told = self.told();
+        let told = self.argument_registers();
         let done = self.store(size, op, rs2, rs1, offset);
         self.conclude(word, size, told, done)
     }

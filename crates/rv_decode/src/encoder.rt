@@ -7,7 +7,7 @@ ghost use Rattle.rv_decode.specs.Words.{encoded};
 use crate::codes;
 use crate::instruction::Instr;
 use crate::places::{
-    joined, joined_b, joined_i, joined_s, joined_u, operand, upper_i, upper_j, upper_u,
+    joined_b, joined_i, joined_r, joined_s, joined_u, operand, upper_i, upper_j, upper_u,
 };
 
 /// The word that spells an instruction. (Unprivileged manual, 2.2, 2.3 and chapter 24.)
@@ -39,7 +39,7 @@ fn word_of(i: Instr) -> u32
         }
         Instr::Op { op, rd, rs1, rs2 } => {
             let high = codes::register7(op);
-            joined(0x33, rd, codes::register(op), rs1, rs2, high)
+            joined_r(0x33, rd, codes::register(op), rs1, rs2, high)
         }
         Instr::Fence { op, rd, rs1, imm } => joined_i(
             0x0f,
@@ -54,7 +54,7 @@ fn word_of(i: Instr) -> u32
             rs1,
             rs2,
             order,
-        } => joined(0x2f, rd, 2, rs1, rs2, codes::atomic(op) * 4 + order),
+        } => joined_r(0x2f, rd, 2, rs1, rs2, codes::atomic(op) * 4 + order),
         Instr::Csr {
             op,
             rd,

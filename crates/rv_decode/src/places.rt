@@ -6,7 +6,7 @@ ghost use Rattle.rv_decode.specs.Words.{joined as joined_word, joined_i as joine
 use crate::operations::ImmOp;
 
 /// The word of these fields.
-pub fn joined(opcode: u32, rd: u32, funct3: u32, rs1: u32, rs2: u32, funct7: u32) -> u32
+pub fn joined_r(opcode: u32, rd: u32, funct3: u32, rs1: u32, rs2: u32, funct7: u32) -> u32
     requires opcode { opcode < 2 ^ 7 }
     requires rd { rd < 2 ^ 5 }
     requires funct3 { funct3 < 2 ^ 3 }
@@ -49,7 +49,7 @@ pub fn joined_s(opcode: u32, funct3: u32, rs1: u32, rs2: u32, imm: i32) -> u32
     ensures { result ≡ joined_word opcode (low_s_of (bits_of imm)) funct3 rs1 rs2
         (high_s_of (bits_of imm)) }
 {
-    joined(opcode, low_s(imm), funct3, rs1, rs2, high_s(imm))
+    joined_r(opcode, low_s(imm), funct3, rs1, rs2, high_s(imm))
 }
 
 /// The word of form B with this opcode.
@@ -61,7 +61,7 @@ pub fn joined_b(opcode: u32, funct3: u32, rs1: u32, rs2: u32, imm: i32) -> u32
     ensures { result ≡ joined_word opcode (low_b_of (bits_of imm)) funct3 rs1 rs2
         (high_b_of (bits_of imm)) }
 {
-    joined(opcode, low_b(imm), funct3, rs1, rs2, high_b(imm))
+    joined_r(opcode, low_b(imm), funct3, rs1, rs2, high_b(imm))
 }
 
 /// An immediate of form I as the upper twelve bits.

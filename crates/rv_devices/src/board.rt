@@ -72,14 +72,14 @@ fn effect(register: Register, value: u32) -> Effect
 }
 
 // What a load gives that is not marked.
-fn unmarked(value: u32) -> Supplied
+fn unmarked_value(value: u32) -> Supplied
     ensures { result ≡ model.unmarked value }
 {
     Supplied { value, mark: 0 }
 }
 
 // The bytes with zeros up to whole sectors.
-fn padded(mut disk: Vec<u8>) -> Result<Vec<u8>, NoMemory>
+fn padded_disk(mut disk: Vec<u8>) -> Result<Vec<u8>, NoMemory>
     ensures { IfOk result (λ all. all.items ≡ model.padded disk.items) }
 {
     let missing = (SECTOR_BYTES - disk.len() % SECTOR_BYTES) % SECTOR_BYTES;
@@ -111,7 +111,7 @@ impl Board {
         ensures begun { IfOk result (λ board. steps_begun board ≡ 0) }
         ensures left { IfOk result (λ board. words_due board ≡ 0) }
     {
-        let bytes = padded(disk)?;
+        let bytes = padded_disk(disk)?;
         let Script {
             clock,
             sectors,
@@ -264,7 +264,7 @@ impl Board {
         let Some(register) = find(address) else {
             unreachable!()
         };
-        unmarked(self.value_of(register))
+        unmarked_value(self.value_of(register))
     }
 
     // A store to the disk's command register.

@@ -409,7 +409,7 @@ impl Taint {
             Instr::Load { rd, .. } => self.load(rd, access),
             Instr::Store { rs2, .. } => self.store(access, self.register(rs2)),
             Instr::OpImm { rd, rs1, .. } => self.put_register(rd, self.register(rs1)),
-            Instr::Op { op, rd, rs1, rs2 } => self.put_register(rd, self.combined(op, rs1, rs2)),
+            Instr::Op { op, rd, rs1, rs2 } => self.put_register(rd, self.operation_mark(op, rs1, rs2)),
             Instr::Atomic { op, rd, rs2, .. } => self.exchange(op, rd, rs2, access),
             Instr::Csr {
                 op,
@@ -471,7 +471,7 @@ impl Taint {
     // are 0 whatever it holds.
     #[tactic(auto, using(crate::proofs::MarkLaws::or_nothing))]
     #[inline(always)]
-    fn combined(&self, op: RegOp, rs1: u32, rs2: u32) -> u8
+    fn operation_mark(&self, op: RegOp, rs1: u32, rs2: u32) -> u8
         ensures { result ≡ mark_of (mark_now self.now) (operands op rs1 rs2) }
     {
         match op {

@@ -73,7 +73,7 @@ impl Line {
     }
 
     /// The line with a line feed added.
-    pub fn ended(mut self) -> Line
+    pub fn with_line_feed(mut self) -> Line
         requires { length self + 1 ≤ 128 }
         ensures { result ≡ line self }
     {

@@ -8,7 +8,7 @@ fn writes_each_part(rt: HostRuntime) {
         .number(18446744073709551615)
         .text(" pc ")
         .hexadecimal(0x8000_0A1C)
-        .ended();
+        .with_line_feed();
     let wanted = "step 18446744073709551615 pc 80000a1c\n";
     assert_eq!(rt; line.as_bytes(), wanted.as_bytes());
 }
