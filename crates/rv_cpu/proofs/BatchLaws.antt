@@ -1,5 +1,6 @@
 -- Plain steps whose pc is kept beside the hart and whose counters rise at the end are the steps of the hart.
 use Rattle.std.proofs.Common.{◌≡◌, ◌∙◌, ℕ, zero, suc, ◌+◌, ◌-◌, ◌%◌, ◌^◌, ◌<◌, ◌≤◌, ◌==◌, length, Bool, true, false, not, ◌&&◌, Option, None, Some, refl, sym, ap, subst, arith}
+use Rattle.std.proofs.Math.Numerals.{suc-eq-add-one}
 use Rattle.std.specs.Prelude.{if◌then◌else◌, is_none, is_some}
 use Rattle.memory_map.specs.Device.{is_device}
 use Rattle.memory_map.specs.Ram.{in_ram}
@@ -238,6 +239,46 @@ ran_first lines pc start at free = record { plain = refl; state = ap (λ (x : �
     both_of : {a b c d : ℕ} → a ≡ b → c ≡ d → ◌≡◌ {A = ℕ × ℕ} (a, c) (b, d)
     both_of p q = cc
 
+-- with a step more, which left this
+pub ran_step : (lines : ℕ) (start s t : State) (done : ℕ) → Ran lines start s done → is_plain (caught_up done s) lines ≡ true → plain_next lines (caught_up done s) ≡ caught_up (done + 1) t → t.csrs ≡ s.csrs → t.step ≡ s.step
+    → Ran lines start t (done + 1)
+ran_step lines start s t done ran plain next csrs step = record {
+  plain = subst (λ (n : ℕ). are_plain lines n start ≡ true) (suc-eq-add-one done) (plain_more lines done start ran.plain (ap (λ (u : State). is_plain u lines) ran.state ∙ plain));
+  state = subst (λ (n : ℕ). plain_after lines n start ≡ caught_up (done + 1) t) (suc-eq-add-one done) (after_more lines done start ∙ ap (plain_next lines) ran.state ∙ next);
+  free = ap (λ (c : Csrs). pending c lines) csrs ∙ ran.free;
+  step = step ∙ ran.step;
+}
+
+-- their number is read off the counters
+module _ (lines : ℕ) (start s : State) (done : ℕ) (ran : Ran lines start s done) where
+  count_of : s.step + done - start.step ≡ done
+  count_of = counted_from s.step start.step done ran.step
+    where
+      counted_from : (m n k : ℕ) → m ≡ n → m + k - n ≡ k
+      counted_from m n k same = omega (arith, same)
+
+  pub plain_so_far : are_plain lines (s.step + done - start.step) start ≡ true
+  plain_so_far = ap (λ (n : ℕ). are_plain lines n start) count_of ∙ ran.plain
+
+  pub after_so_far : plain_after lines (s.step + done - start.step) start ≡ caught_up done s
+  after_so_far = ap (λ (n : ℕ). plain_after lines n start) count_of ∙ ran.state
+
+-- and none was done from here to here
+module _ (lines : ℕ) (s : State) where
+  none_of : s.step - s.step ≡ 0
+  none_of = zero_of s.step
+    where
+      zero_of : (n : ℕ) → n - n ≡ 0
+      zero_of n = omega arith
+
+  pub plain_at_first : are_plain lines (s.step - s.step) s ≡ true
+  unfolding are_plain
+  plain_at_first = ap (λ (n : ℕ). are_plain lines n s) none_of
+
+  pub after_at_first : plain_after lines (s.step - s.step) s ≡ s
+  unfolding plain_after
+  after_at_first = ap (λ (n : ℕ). plain_after lines n s) none_of
+
 module _ (lines : ℕ) (start s t : State) (done : ℕ) (ran : Ran lines start s done) where
   -- interrupts wait no more than before
   waits : pending (counted_times done s.csrs) lines ≡ None
@@ -251,30 +292,20 @@ module _ (lines : ℕ) (start s t : State) (done : ℕ) (ran : Ran lines start s
   unfolding cpu
   next_by = ap (λ (cause : Option ℕ). (unless_interrupted (caught_up done s) lines None cause).1) waits
 
-  ran_on : (next : ℕ) → going (Some next) t ≡ goes_fetched s (fetched s.ram s.pc) → Ran lines start (from t next) (suc done)
+  pub ran_next : (next : ℕ) → going (Some next) t ≡ goes_fetched s (fetched s.ram s.pc) → Ran lines start (from t next) (done + 1)
   unfolding counted_times
-  ran_on next is =
+  ran_next next is =
       let one = went s t next (counted_times done s.csrs) (s.step + done) lines (fetched s.ram s.pc) is in
-      record {
-        plain = plain_more lines done start ran.plain (ap (λ (u : State). is_plain u lines) ran.state ∙ plain_by true one.is_plain);
-        state =
-            after_more lines done start ∙ ap (plain_next lines) ran.state ∙ next_by ∙ one.after
-            ∙ caught (counted_times done s.csrs) (counted_times done t.csrs) (s.step + done + 1) (t.step + suc done) (ap (counted_times done) (sym one.csrs)) (steps s.step t.step one.step);
-        free = ap (λ (c : Csrs). pending c lines) one.csrs ∙ ran.free;
-        step = one.step ∙ ran.step;
-      }
+      ran_step lines start s (from t next) done ran (plain_by true one.is_plain)
+      (next_by ∙ one.after ∙ caught (counted_times done s.csrs) (counted_times done t.csrs) (s.step + done + 1) (t.step + suc done) (ap (counted_times done) (sym one.csrs)) (steps s.step t.step one.step)
+      ∙ ap (λ n. caught_up n (from t next)) (suc-eq-add-one done))
+      one.csrs one.step
     where
       caught : (c d : Csrs) (m n : ℕ) → c ≡ d → m ≡ n → record t { pc = next; csrs = counted c true; step = m } ≡ record t { pc = next; csrs = counted d true; step = n }
       caught c d m n first second = cc
 
       steps : (m n : ℕ) → n ≡ m → m + done + 1 ≡ n + suc done
       steps m n same = omega (arith, same)
-
-  pub ran_next : (next : ℕ) → going (Some next) t ≡ goes_fetched s (fetched s.ram s.pc) → Ran lines start (from t next) (done + 1)
-  ran_next next is = subst (λ (n : ℕ). Ran lines start (from t next) n) (more done) (ran_on next is)
-    where
-      more : (n : ℕ) → suc n ≡ n + 1
-      more n = omega arith
 
   pub stays_plain : going None t ≡ goes_fetched s (fetched s.ram s.pc) → is_plain (caught_up done t) lines ≡ false
   stays_plain is =

@@ -16,6 +16,7 @@ use Rattle.hart_model.proofs.CountLaws.{hart_counts}
 use Rattle.rv_cpu.specs.Batch.{caught_up, counted_times}
 use Rattle.rv_cpu.specs.Plain.{is_plain}
 use Rattle.rv_cpu.specs.Told.{events_told, next_told, state_told}
+use Rattle.rv_cpu.proofs.BatchLaws.{Ran, ran_first, ran_step}
 use Rattle.rv_cpu.proofs.CpuLaws.{step_fits, step_sized, step_sound}
 use Rattle.rv_cpu.proofs.PlainLaws.{plain_needs, plain_stores}
 use Rattle.rv_cpu.proofs.ToldLaws.{none_told, step_told}
@@ -94,16 +95,14 @@ pub record Standing (lines number behind : ℕ) (first now : State) (Seen SeenNo
   pub so_far : RunSoFar hart number (unfed steps_of lines first) (unfed steps_of lines (caught_up behind now)) Seen SeenNow
   pub aligned : IsAligned now
   pub ram : length now.ram ≡ length first.ram
-  pub csrs : now.csrs ≡ first.csrs
-  pub step : now.step ≡ first.step
+  pub ran : Ran lines first now behind
 
-pub stands_first : (lines number : ℕ) (first : State) (Seen : List Event → Type 0) → IsAligned first → Standing lines number 0 first first Seen Seen
-stands_first lines number first Seen aligned = record {
+pub stands_first : (lines number : ℕ) (first : State) (Seen : List Event → Type 0) → IsAligned first → pending first.csrs lines ≡ None → Standing lines number 0 first first Seen Seen
+stands_first lines number first Seen aligned free = record {
   so_far = subst (λ (s : State). RunSoFar hart number (unfed steps_of lines first) (unfed steps_of lines s) Seen Seen) (caught_none first) (loop_first hart number (unfed steps_of lines first) Seen);
   aligned = aligned;
   ram = refl;
-  csrs = refl;
-  step = refl;
+  ran = ran_first lines first.pc first refl free;
 }
 
 module _ (lines number behind : ℕ) (first s t : State) (Seen SeenNow SeenNext : List Event → Type 0) (stands : Standing lines number behind first s Seen SeenNow) where
@@ -118,8 +117,7 @@ module _ (lines number behind : ℕ) (first s t : State) (Seen SeenNow SeenNext 
         on.seen;
     aligned = aligned_behind (behind + 1) t (step_sound (caught_up behind s) (caught_up (behind + 1) t) lines None on.event on.is (record { aligned = aligned_ahead behind s stands.aligned })).aligned;
     ram = step_sized (caught_up behind s) (caught_up (behind + 1) t) lines None on.event on.is ∙ stands.ram;
-    csrs = on.csrs ∙ stands.csrs;
-    step = on.step ∙ stands.step;
+    ran = ran_step lines first s t behind stands.ran on.plain (ap (λ (x : Event × State). x.1) on.is) on.csrs on.step;
   }
 
   -- and where none was done
@@ -128,6 +126,5 @@ module _ (lines number behind : ℕ) (first s t : State) (Seen SeenNow SeenNext 
     so_far = record { events = stands.so_far.events; goes = stands.so_far.goes; seen = λ h was. still.seen (h ++ stands.so_far.events) (stands.so_far.seen h was) };
     aligned = stands.aligned;
     ram = stands.ram;
-    csrs = stands.csrs;
-    step = stands.step;
+    ran = stands.ran;
   })

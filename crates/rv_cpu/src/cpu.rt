@@ -1,6 +1,6 @@
 //! The hart as its callers see it.
 ghost use Rattle.memory_map.specs.declared.TheConstants.{MOST_STEPS};
-ghost use Rattle.std.specs.Prelude.{◌≡◌, ◌+◌, ◌*◌, ◌%◌, ◌<◌, ◌≤◌, ℕ, false, Some, IfSome, IsTrue, is_some, length};
+ghost use Rattle.std.specs.Prelude.{◌≡◌, ◌+◌, ◌-◌, ◌*◌, ◌%◌, ◌<◌, ◌≤◌, ℕ, false, Some, IfSome, IsTrue, is_some, length};
 ghost use Rattle.any_machine.specs.Machine.{is_load};
 ghost use Rattle.run_events.specs.Event.{Fits};
 
@@ -78,6 +78,8 @@ impl Cpu {
         ensures runs { RunSoFar hart number (unfed (λ (s : State). s.step) lines self.old)
             (unfed (λ (s : State). s.step) lines self.new) (W.has_seen seen.old)
             (W.has_seen seen.new) }
+        ensures plain { IsTrue (are_plain lines (self.new.step - self.old.step) self.old) }
+        ensures state { plain_after lines (self.new.step - self.old.step) self.old ≡ self.new }
         ensures stops { self.new.step < number → is_plain self.new lines ≡ false }
         ensures rises { self.old.step ≤ self.new.step }
         ensures ram { length self.new.ram ≡ length self.old.ram }

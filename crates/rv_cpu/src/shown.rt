@@ -1,6 +1,6 @@
 //! Plain steps that are shown: the counters rise once, at the end.
 ghost use Rattle.memory_map.specs.declared.TheConstants.{MOST_STEPS};
-ghost use Rattle.std.specs.Prelude.{◌≡◌, false, ◌+◌, ◌*◌, ◌<◌, ◌≤◌, List, ◌∷◌, [], ◌++◌, Some, is_some, length};
+ghost use Rattle.std.specs.Prelude.{◌≡◌, false, IsTrue, ◌+◌, ◌-◌, ◌*◌, ◌<◌, ◌≤◌, List, ◌∷◌, [], ◌++◌, Some, is_some, length};
 ghost use Rattle.any_machine.specs.Running.{RunSoFar, unfed};
 ghost use Rattle.run_events.specs.declared.event.Event.{Event};
 ghost use Rattle.run_events.specs.Event.{Fits};
@@ -8,6 +8,7 @@ ghost use Rattle.hart_model.specs.Aligned.{IsAligned};
 ghost use Rattle.hart_model.specs.Machine.{hart};
 ghost use Rattle.hart_model.specs.State.{State};
 ghost use Rattle.rv_cpu.specs.Plain.{is_plain};
+ghost use Rattle.rv_cpu.specs.PlainRun.{are_plain, plain_after};
 ghost use Rattle.rv_cpu.specs.Midway.{at};
 ghost use Rattle.rv_cpu.specs.Told.{events_told, idle_told, next_told, state_told, told_midway};
 
@@ -130,6 +131,8 @@ impl Engine {
         ensures runs { RunSoFar hart number (unfed (λ (s : State). s.step) lines self.old)
             (unfed (λ (s : State). s.step) lines self.new) (W.has_seen seen.old)
             (W.has_seen seen.new) }
+        ensures plain { IsTrue (are_plain lines (self.new.step - self.old.step) self.old) }
+        ensures state { plain_after lines (self.new.step - self.old.step) self.old ≡ self.new }
         ensures stops { self.new.step < number → is_plain self.new lines ≡ false }
         ensures rises { self.old.step ≤ self.new.step }
         ensures aligned { IsAligned self.new }
