@@ -6,6 +6,8 @@ mod disk;
 mod effect;
 mod register;
 mod schedule;
+#[cfg(test)]
+mod tests;
 mod timer;
 mod transfer;
 
