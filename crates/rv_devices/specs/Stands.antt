@@ -1,7 +1,9 @@
 -- What a board stands for.
 use Rattle.std.specs.Prelude.{◌≡◌, ℕ, ◌-◌, ◌^◌, ◌≤◌, Bool, min, nat_le, List, drop}
+use Rattle.std.specs.Option.{option_map_or}
 use Rattle.run_events.specs.declared.supply.DmaWord.{DmaWord}
 use Rattle.machine_model.specs.Script.{Script, Entry}
+use Rattle.machine_model.specs.Board as model
 use Rattle.machine_model.specs.Board.{BoardState, IsPlayable}
 use Rattle.rv_devices.specs.declared.board.Board.{Board}
 use Rattle.rv_devices.specs.Entries.{AreLater, entry_due, ticks_before}
@@ -21,7 +23,8 @@ words_due board = unsent board.disk.sending
 abbrev pub quiet_ahead : Board → ℕ
 quiet_ahead board = min (min board.quiet (steady_until board.timer)) (2 ^ 32) - board.begun
 
--- what a board keeps of its last look at script and disk: nothing of theirs falls due before that step
+-- what a board keeps of its last look at script and disk: nothing of theirs falls due before that step. Each call says
+-- what it is afterwards, so that none has the board look again too early, which would cost time alone.
 abbrev pub last_look : Board → ℕ
 last_look board = board.quiet
 
@@ -30,6 +33,17 @@ abbrev pub look_now : Board → ℕ
 look_now board =
     min (entry_due board.schedule.entries.items board.schedule.place)
     (completes_before board.disk.activity)
+
+-- the last look that a store to a register leaves: a command of the disk lowers it to where one completes now; all
+-- others leave it, since they bring nothing that falls due
+abbrev pub look_left_by : model.Register → (old new : Board) → ℕ
+look_left_by model.DiskCommand old new = min (last_look old) (completes_before new.disk.activity)
+look_left_by register old new = last_look old
+
+abbrev pub look_left_at : (address : ℕ) → (old new : Board) → ℕ
+look_left_at address old new =
+    option_map_or (λ register. look_left_by register old new) (model.register_at address)
+    (last_look old)
 
 -- whether a board looks anew before it begins this step
 abbrev pub looks_before : ℕ → Board → Bool

@@ -98,7 +98,7 @@ impl Board {
     ghost use Rattle.machine_model.specs.Board.{BoardState, IsPlayable};
     ghost use Rattle.rv_devices.specs.Effects.{effect_of};
     ghost use Rattle.rv_devices.specs.Named.{named};
-    ghost use Rattle.rv_devices.specs.Stands.{Stands, last_look, look_now, looks_before, quiet_ahead, steps_begun, words_due};
+    ghost use Rattle.rv_devices.specs.Stands.{Stands, last_look, look_left_at, look_left_by, look_now, looks_before, quiet_ahead, steps_begun, words_due};
     ghost use Rattle.rv_devices.specs.Still.{AreStill};
 
     /// The board at reset, before the first step, with a disk file that is padded with zeros to whole sectors. It is the
@@ -110,6 +110,7 @@ impl Board {
             (λ board. Stands script 0 [] (model.reset_board (model.padded disk.items)) board) }
         ensures begun { IfOk result (λ board. steps_begun board ≡ 0) }
         ensures left { IfOk result (λ board. words_due board ≡ 0) }
+        ensures looks { IfOk result (λ board. last_look board ≡ 0) }
     {
         let bytes = padded_disk(disk)?;
         let Script {
@@ -187,6 +188,7 @@ impl Board {
         requires { count ≤ quiet_ahead self.old }
         ensures begun { steps_begun self.new ≡ steps_begun self.old + count }
         ensures left { words_due self.new ≡ words_due self.old }
+        ensures looks { last_look self.new ≡ last_look self.old }
         ensures stands { (script : Outside) (begun : ℕ) (words : List DmaWord) (state : BoardState)
             → Stands script begun words state self.old
             → Stands script (begun + count) words state self.new }
@@ -206,6 +208,7 @@ impl Board {
         ensures left { words_due self.new ≡ words_due self.old - 1 }
         ensures some { IsSome result ↔ (1 ≤ words_due self.old) }
         ensures begun { steps_begun self.new ≡ steps_begun self.old }
+        ensures looks { last_look self.new ≡ last_look self.old }
     {
         self.disk.sending.next()
     }
@@ -257,6 +260,7 @@ impl Board {
             → Stands script (step + 1) words (model.after_load script step state address) self.new }
         ensures begun { steps_begun self.new ≡ steps_begun self.old }
         ensures left { words_due self.new ≡ words_due self.old }
+        ensures looks { last_look self.new ≡ last_look self.old }
     {
         if address == SERIAL_DATA {
             return self.schedule.take();
@@ -273,6 +277,7 @@ impl Board {
         requires ram { length ram.now ≤ MOST_RAM_BYTES }
         ensures begun { self.new.begun ≡ self.old.begun }
         ensures left { self.new.disk.sending ≡ self.old.disk.sending }
+        ensures looks { self.new.quiet ≡ look_left_by model.DiskCommand self.old self.new }
         ensures stands { (script : Outside) (step : ℕ) (words : List DmaWord) (state : BoardState)
             → Stands script (step + 1) words state self.old
             → Stands script (step + 1) words
@@ -289,6 +294,7 @@ impl Board {
         requires ram { length ram.now ≤ MOST_RAM_BYTES }
         ensures begun { self.new.begun ≡ self.old.begun }
         ensures left { self.new.disk.sending ≡ self.old.disk.sending }
+        ensures looks { self.new.quiet ≡ look_left_by (named register) self.old self.new }
         ensures stands { (script : Outside) (step : ℕ) (words : List DmaWord) (state : BoardState)
             → Stands script (step + 1) words state self.old
             → Stands script (step + 1) words
@@ -323,6 +329,7 @@ impl Board {
             (model.after_store script step ram.now state address value) self.new }
         ensures begun { steps_begun self.new ≡ steps_begun self.old }
         ensures left { words_due self.new ≡ words_due self.old }
+        ensures looks { last_look self.new ≡ look_left_at address self.old self.new }
     {
         let Some(register) = find(address) else {
             unreachable!()
