@@ -1,5 +1,5 @@
 -- A run of a replay, step by step as a loop does it.
-use Rattle.std.proofs.Common.{◌≡◌, ℕ, suc, ◌<◌, not, List, [], ◌∷◌, ◌++◌, None, Some, refl, sym, ap, ◌∙◌, subst, append-nil, append_assoc}
+use Rattle.std.proofs.Common.{◌≡◌, ℕ, suc, ◌+◌, ◌<◌, not, List, [], ◌∷◌, ◌++◌, None, Some, refl, sym, ap, ◌∙◌, subst, append-nil, append_assoc}
 use Rattle.std.specs.Prelude.{true, is_some}
 use Rattle.run_events.specs.declared.event.Event.{Event}
 use Rattle.run_events.specs.declared.supply.Need.{Need}
@@ -7,17 +7,20 @@ use Rattle.run_events.specs.declared.supply.Need.TheVariants.{Load, Nothing}
 use Rattle.run_events.specs.declared.supply.Supplied.{Supplied}
 use Rattle.any_machine.specs.Machine.{CountsSteps, Machine, is_load, power_status}
 use Rattle.any_machine.specs.Replay.{load_fault}
-use Rattle.any_machine.specs.Held.{Held, RunsTo, held_event, held_next, may_step}
+use Rattle.any_machine.specs.Held.{Held, RunsTo, held_event, held_next, may_step, run_held}
 use Rattle.any_machine.specs.Running.{IsFed, RunSoFar, fed, unfed}
-use Rattle.any_machine.proofs.HeldRuns.{runs_on}
+use Rattle.any_machine.proofs.HeldRuns.{held_joins, held_more, runs_on}
 
 module _ {S : Type 0} (m : Machine S) (number : ℕ) where
   pub loop_first : (first : Held S) (Seen : List Event → Type 0) → RunSoFar m number first first Seen Seen
-  loop_first first Seen = record { events = []; goes = λ last rest runs. runs; seen = λ h was. subst Seen (sym (append-nil h)) was }
+  unfolding run_held
+  loop_first first Seen = record { steps = 0; held = refl; events = []; goes = λ last rest runs. runs; seen = λ h was. subst Seen (sym (append-nil h)) was }
 
   pub loop_next : (first now next' : Held S) (event : Event) (Seen SeenNow SeenNext : List Event → Type 0) → RunSoFar m number first now Seen SeenNow → now.step < number → may_step m now ≡ true → next' ≡ held_next m now → event ≡ held_event m now
       → ((h : List Event) → SeenNow h → SeenNext (h ++ event ∷ [])) → RunSoFar m number first next' Seen SeenNext
   loop_next first now next' event Seen SeenNow SeenNext so_far lt may next_is event_is sees = record {
+    steps = so_far.steps + 1;
+    held = held_more m so_far.steps first now so_far.held may ∙ sym next_is;
     events = so_far.events ++ event ∷ [];
     goes =
         λ last rest runs.
@@ -29,6 +32,8 @@ module _ {S : Type 0} (m : Machine S) (number : ℕ) where
   -- two parts of a run, one after the other
   pub loop_joins : (first middle now : Held S) (Seen SeenThen SeenNow : List Event → Type 0) → RunSoFar m number first middle Seen SeenThen → RunSoFar m number middle now SeenThen SeenNow → RunSoFar m number first now Seen SeenNow
   loop_joins first middle now Seen SeenThen SeenNow one two = record {
+    steps = one.steps + two.steps;
+    held = held_joins m one.steps two.steps first ∙ ap (run_held m two.steps) one.held ∙ two.held;
     events = one.events ++ two.events;
     goes = λ last rest runs. subst (RunsTo m number first last) (sym (append_assoc one.events two.events rest)) (one.goes last (two.events ++ rest) (two.goes last rest runs));
     seen = λ h was. subst SeenNow (append_assoc h one.events two.events) (two.seen (h ++ one.events) (one.seen h was));

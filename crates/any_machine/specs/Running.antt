@@ -3,11 +3,13 @@ use Rattle.std.specs.Prelude.{◌≡◌, ℕ, true, List, [], ◌∷◌, ◌++�
 use Rattle.run_events.specs.declared.event.Event.{Event}
 use Rattle.run_events.specs.declared.supply.Supplied.{Supplied}
 use Rattle.any_machine.specs.Machine.{Machine, is_load, power_status}
-use Rattle.any_machine.specs.Held.{Held, RunsTo}
+use Rattle.any_machine.specs.Held.{Held, RunsTo, run_held}
 
--- A run that began at one place stands at another one, where this is seen: the events between, what is left of the run,
--- and what is seen.
+-- A run that began at one place stands at another one, where this is seen: the steps between and where they lead, their
+-- events, what is left of the run, and what is seen.
 pub record RunSoFar {S : Type 0} (m : Machine S) (number : ℕ) (first now : Held S) (Seen SeenNow : List Event → Type 0) : Type 0 where
+  pub steps : ℕ
+  pub held : run_held m steps first ≡ now
   pub events : List Event
   pub goes : (last : Held S) (rest : List Event) → RunsTo m number now last rest → RunsTo m number first last (events ++ rest)
   pub seen : (h : List Event) → Seen h → SeenNow (h ++ events)

@@ -123,7 +123,7 @@ module _ (lines number behind : ℕ) (first s t : State) (Seen SeenNow SeenNext 
   -- and where none was done
   pub stands_still : Stays lines behind s t SeenNow SeenNext → Standing lines number behind first t Seen SeenNext
   stands_still still = subst (λ (u : State). Standing lines number behind first u Seen SeenNext) (sym still.state) (record {
-    so_far = record { events = stands.so_far.events; goes = stands.so_far.goes; seen = λ h was. still.seen (h ++ stands.so_far.events) (stands.so_far.seen h was) };
+    so_far = record { steps = stands.so_far.steps; held = stands.so_far.held; events = stands.so_far.events; goes = stands.so_far.goes; seen = λ h was. still.seen (h ++ stands.so_far.events) (stands.so_far.seen h was) };
     aligned = stands.aligned;
     ram = stands.ram;
     ran = stands.ran;

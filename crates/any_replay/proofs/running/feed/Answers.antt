@@ -1,7 +1,7 @@
 -- The step was fed what waited for it.
 use Rattle.std.proofs.Common.{◌≡◌, ◌∙◌, Option, None, ap, sym, subst, arith}
 use Rattle.run_events.specs.declared.supply.Supplied.{Supplied}
-use Rattle.any_machine.proofs.RunningLaws.{loop_fed}
+use Rattle.any_machine.proofs.RunningLaws.{loop_fed, loop_first}
 use Rattle.any_machine.specs.Held.{Held}
 use Rattle.any_machine.specs.Running.{RunSoFar, fed, unfed}
 use Rattle.any_replay.specs.Standing.{held_of}
@@ -24,3 +24,16 @@ returns-then-feed_fast-clause-runs g c =
     subst (λ (h : Held g.row.H.Denot). RunSoFar g.H.Hart.machine c.args.number h (record { state = next; step = done next; lines = standing.lines; load = None; power = standing.power }) Seen SeenNow) first
     (subst (λ (h : Held g.row.H.Denot). RunSoFar g.H.Hart.machine c.args.number (fed done standing.lines given hart) h Seen SeenNow) last
     (loop_fed g.H.Hart.machine done g.met.H.Hart.counts standing.lines given hart next Seen SeenNow (c.feed_fast.ensures.fed c.if-feed_fast.true) c.args.number (omega (arith, c.steps.ensures, c.if-steps-number.false))))
+
+pub returns-then-steps-number-clause-runs : goal.returns-then-steps-number-clause-runs
+returns-then-steps-number-clause-runs g c =
+    loop_first g.H.Hart.machine c.args.number (held_of g.H.Hart.done c.args.standing.now) (g.W.Watcher.has_seen c.args.seen.now)
+
+pub returns-else-feed_fast-clause-runs : goal.returns-else-feed_fast-clause-runs
+returns-else-feed_fast-clause-runs g c =
+    rw (c.feed_fast.ensures.same c.if-feed_fast.false, c.feed_fast.ensures.unseen c.if-feed_fast.false)
+    (loop_first g.H.Hart.machine c.args.number (held_of g.H.Hart.done c.args.standing.now) (g.W.Watcher.has_seen c.args.seen.now))
+
+pub returns-in_default-clause-runs : goal.returns-in_default-clause-runs
+returns-in_default-clause-runs g c =
+    loop_first g.H.Hart.machine c.args.number (held_of g.H.Hart.done c.args.standing.now) (g.W.Watcher.has_seen c.args.seen.now)

@@ -1,10 +1,18 @@
 use Rattle.std.proofs.Common.{not, is_some, refl, sym, ap, ◌∙◌, arith}
 use Rattle.any_machine.specs.Held.{held_event}
-use Rattle.any_machine.proofs.RunningLaws.{loop_next, loop_joins}
+use Rattle.any_machine.proofs.RunningLaws.{loop_first, loop_next, loop_joins}
 use Rattle.any_replay.specs.Standing.{held_of}
 use Rattle.any_replay.proofs.RunLaws.{RunEnds, loop_done, loop_off, loop_waits, may_by}
 use Rattle.any_replay.proofs.running.run_to.Given.{Over}
 use Rattle.any_replay.proofs.running.run_to.Goals as goal
+
+pub turns-init : goal.turns-init
+turns-init g c = record {
+  so_far = loop_first g.H.Hart.machine c.args.number (held_of g.H.Hart.done c.args.standing.now) (g.W.Watcher.has_seen c.args.seen.now);
+  ram = refl;
+  size = refl;
+  made = refl;
+}
 
 -- all steps are done once the fast ones are
 done : (g : Over) (c : goal.Then-steps-number g)
