@@ -3,4 +3,4 @@ use Rattle.rv_cpu.proofs.MidwayLaws.{whole_end}
 use Rattle.rv_cpu.proofs.engine.Engine.run_load.Goals as goal
 
 pub returns : goal.returns
-returns c = whole_end _ _ _ _ _ _ c.load-done.ensures c.told-told.ensures c.conclude.ensures
+returns c = whole_end _ _ _ _ _ _ c.load-done.ensures c.argument_registers-told.ensures c.conclude.ensures

@@ -23,7 +23,7 @@ tell-requires-clause-fits g c event next told =
     let read : Some c.in-Some.instr ≡ instruction word = c.in-Some.ensures.read in
     c.requires.fits event next
     (told_found c.args.behind c.args.lines s word c.in-Some.instr m there is read c.execute_plainly-done.ensures
-    ∙ ap (λ (t : Told). told_midway c.args.behind t word m) (sym c.told-told.ensures) ∙ told)
+    ∙ ap (λ (t : Told). told_midway c.args.behind t word m) (sym c.argument_registers-told.ensures) ∙ told)
 
 pub show_idle-requires : goal.show_idle-requires
 show_idle-requires g c =

@@ -17,6 +17,6 @@ returns-then-address-eq-SERIAL_DATA-clause-stands c = λ script step words state
 pub returns-clause-value : goal.returns-clause-value
 returns-clause-value c = λ script step words state s.
     let other : named c.in-Some.register ≢ model.SerialData = λ is. not_data c.args.address c.if-address-eq-SERIAL_DATA.false (sym c.in-Some.ensures ∙ ap Some is) in
-    c.unmarked.ensures
+    c.unmarked_value.ensures
     ∙ c.value_of.ensures script step words state s other
     ∙ ap (λ r. option_map_or (model.given_by script step state) r (model.unmarked 0)) c.in-Some.ensures
