@@ -152,3 +152,25 @@ IsAllowed plan byte = (reader : ℕ) → IsRequired plan reader → slice_index 
 -- in a finished state the released bytes are exactly those that all required replicas approve
 abbrev pub ReleasesAll : Type 0
 ReleasesAll = (plan : Plan) → IsPlan plan → (s : CoreState) → IsSound plan s → IsFinished plan s → (byte : ℕ) → byte < length plan.outputs → (byte < s.released → IsAllowed plan byte) × (IsAllowed plan byte → byte < s.released)
+
+-- what holds of a state and a later one: nothing is taken back; after a close no record is appended, and after a put that
+-- failed no record is appended and no byte released
+pub record IsLater (plan : Plan) (before now : CoreState) : Type 0 where
+  pub appended : before.appended ≤ now.appended
+  pub released : before.released ≤ now.released
+  pub taken : (reader : ℕ) → reader < length plan.limits → slice_index before.taken reader ≤ slice_index now.taken reader
+  pub approved : (reader : ℕ) → reader < length plan.limits → slice_index before.approved reader ≤ slice_index now.approved reader
+  pub closed : before.closed ≡ true → (now.closed ≡ true) × (now.appended ≡ before.appended)
+  pub failed : before.failed ≡ true → (now.failed ≡ true) × (now.appended ≡ before.appended) × (now.released ≡ before.released)
+
+-- every list of events leads from a sound state to a later one
+abbrev pub TakesNothingBack : Type 0
+TakesNothingBack = (plan : Plan) → IsPlan plan → (events : List CoreEvent) (before now : CoreState) → IsSound plan before → Leads plan before events now → IsLater plan before now
+
+-- no event that may come changes anything
+abbrev pub IsAtRest : Plan → CoreState → Type 0
+IsAtRest plan s = (event : CoreEvent) → May plan s event → core_after plan s event ≡ s
+
+-- where the log has a place and no put has failed, a state at rest is finished, and the log is closed
+abbrev pub RestsFinished : Type 0
+RestsFinished = (plan : Plan) → IsPlan plan → 1 ≤ plan.cap → (s : CoreState) → IsSound plan s → s.failed ≡ false → IsAtRest plan s → IsFinished plan s × (s.closed ≡ true)

@@ -10,7 +10,9 @@ mod take;
 mod tests;
 mod verdict;
 
-pub use core_law::{core_releases_all, core_stays_sound};
+pub use core_law::{
+    core_releases_all, core_rests_finished, core_stays_sound, core_takes_nothing_back,
+};
 pub use full::Full;
 pub use hub::Hub;
 pub use hub_law::hub_follows_core;
