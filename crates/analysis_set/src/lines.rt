@@ -19,7 +19,10 @@ pub(crate) fn title() -> Line
 pub(crate) fn steps(steps: u32) -> Line
     ensures { result ≡ steps_line steps }
 {
-    Line::new().text("steps ").number(u64::from(steps)).with_line_feed()
+    Line::new()
+        .text("steps ")
+        .number(u64::from(steps))
+        .with_line_feed()
 }
 
 // Why the run ended.
@@ -123,7 +126,10 @@ pub(crate) fn findings(kind: Kind, count: u64, first: Option<u32>) -> Line
 pub(crate) fn unmatched(count: u64) -> Line
     ensures { result ≡ unmatched_line count }
 {
-    Line::new().text("calls unmatched ").number(count).with_line_feed()
+    Line::new()
+        .text("calls unmatched ")
+        .number(count)
+        .with_line_feed()
 }
 
 // Of coverage: how many pc values were executed, and how many ranges they make up.

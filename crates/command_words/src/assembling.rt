@@ -167,7 +167,10 @@ fn are_crossed(threads: u32, is_pattern: bool) -> bool
 fn crossed_turns(draft: &Draft<'_>) -> bool
     ensures { result ≡ crossed_turns (held draft.now) }
 {
-    are_crossed(threads(draft), turns(draft).is_pattern(chosen_kinds(draft).len()))
+    are_crossed(
+        threads(draft),
+        turns(draft).is_pattern(chosen_kinds(draft).len()),
+    )
 }
 
 // The number of an option's value, where it stands and does not go with the others.

@@ -95,7 +95,10 @@ fn image(fault: ImageFault) -> Line
     ensures { result ≡ image_line fault }
 {
     match fault {
-        ImageFault::Short { need } => Line::new().text("image: short need ").number(need).with_line_feed(),
+        ImageFault::Short { need } => Line::new()
+            .text("image: short need ")
+            .number(need)
+            .with_line_feed(),
         ImageFault::NotThis { field } => Line::new()
             .text("image: not this field ")
             .number(u64::from(field))

@@ -409,7 +409,10 @@ impl Taint {
             Instr::Load { rd, .. } => self.load(rd, access),
             Instr::Store { rs2, .. } => self.store(access, self.register(rs2)),
             Instr::OpImm { rd, rs1, .. } => self.put_register(rd, self.register(rs1)),
-            Instr::Op { op, rd, rs1, rs2 } => self.put_register(rd, self.operation_mark(op, rs1, rs2)),
+            Instr::Op { op, rd, rs1, rs2 } => self.put_register(
+                rd,
+                self.operation_mark(op, rs1, rs2),
+            ),
             Instr::Atomic { op, rd, rs2, .. } => self.exchange(op, rd, rs2, access),
             Instr::Csr {
                 op,
