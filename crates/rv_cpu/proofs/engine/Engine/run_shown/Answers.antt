@@ -1,6 +1,7 @@
 -- Each turn of the loop is one more plain step, shown.
 use Rattle.std.proofs.Common.{◌≡◌, ◌+◌, ◌-◌, ◌*◌, ◌<◌, true, false, refl, sym, ap, ◌∙◌, subst, arith}
 use Rattle.any_machine.specs.Running.{RunSoFar, unfed}
+use Rattle.any_machine.proofs.RunningLaws.{loop_first}
 use Rattle.hart_model.specs.Aligned.{IsAligned}
 use Rattle.hart_model.specs.Machine.{hart}
 use Rattle.hart_model.specs.State.{State}
@@ -90,6 +91,12 @@ pub returns-then-is_some-clause-stops : goal.returns-then-is_some-clause-stops
 returns-then-is_some-clause-stops g c = λ fewer. waiting_plain _ _ (grind (arith, c.self.view_is, c.pending.ensures, c.is_some.ensures, c.if-is_some.true))
 
 -- no step is done
+pub returns-then-self-number-clause-runs : goal.returns-then-self-number-clause-runs
+returns-then-self-number-clause-runs g c = loop_first hart c.args.number (unfed steps_of c.args.lines c.args.self.now) (g.W.Watcher.has_seen c.args.seen.now)
+
+pub returns-then-is_some-clause-runs : goal.returns-then-is_some-clause-runs
+returns-then-is_some-clause-runs g c = loop_first hart c.args.number (unfed steps_of c.args.lines c.args.self.now) (g.W.Watcher.has_seen c.args.seen.now)
+
 pub returns-then-self-number-clause-plain : goal.returns-then-self-number-clause-plain
 returns-then-self-number-clause-plain g c = plain_at_first c.args.lines c.args.self.now
 
