@@ -89,6 +89,7 @@ impl Hart for Toy {
         }
     }
 
+    #[tactic(auto, using(any_machine::proofs::RunningLaws::loop_first))]
     fn run_fast<W: Watcher>(&mut self, _lines: u8, _number: u32, _seen: &mut W) {}
 
     fn feed_fast<W: Watcher>(&mut self, _lines: u8, _supplied: Supplied, _seen: &mut W) -> bool {
